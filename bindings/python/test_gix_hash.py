@@ -192,7 +192,7 @@ class Bindings(unittest.TestCase):
             self.assertRegex(ran.stderr, f"ImportError: .*{why}.*GIX_HASH_LIB" if why else "^$")
         source = pathlib.Path(gix_hash.__file__).read_text(encoding="utf-8")
         for version in ("9.9.0", "0.3.9", "0.4.0"):
-            with self.assertRaisesRegex(ImportError, f"is not {version[:3]}: set GIX_HASH_LIB"):
+            with self.assertRaisesRegex(ImportError, rf"libgix_hash\S*: its version \d+\.\d+ is not {version[:3]}: set GIX_HASH_LIB"):
                 exec(source.replace(f'"{gix_hash.__version__}"', f'"{version}"'), {"__name__": "other", "__file__": "/"})
         found = {}
         exec("from gix_hash import *", found)
@@ -269,6 +269,9 @@ class Bindings(unittest.TestCase):
             ("'HEAD': a byte of the text is not a hex digit", Prefix, "HEAD"),
             (f"'{'g' * 40}': a byte of the text is not a hex digit", Id, "g" * 40),
             (f"'e6': {Code.BAD_LENGTH.text}", Id, "e6"),
+            (f"'{EMPTY}': {Code.PREFIX_TOO_LONG.text}", index.find, EMPTY),
+            (f"'{EMPTY}': {Code.PREFIX_TOO_LONG.text}", Prefix(EMPTY).cmp, Id(EMPTY[:40])),
+            ("expected bytes or another buffer, not 'abc' of the type str", Hasher("sha1").update, "abc"),
             ("a pack index of the other kind (its kind: sha1)", PackIndex, "sha256", index._data),
             ("a pack index of another version than 2 (its version: 3)", PackIndex, "sha1", b"\xfftOc\0\0\0\3" + bytes(2000)),
         ):

@@ -544,10 +544,15 @@ class Stores(unittest.TestCase):
         self.addCleanup(os.environ.update, PACKTOOL=program, PATH=path)
         (self.room / "old").write_text("#!/bin/sh\necho packtool 0.4.9 of Nunbirdstand\n")
         (self.room / "old").chmod(0o755)
-        for given in ("/bin/cat", "/nowhere", "/", "false", str(self.room / "old"), str(bare / "HEAD"), "nowhere", ""):
+        old, wanted = str(self.room / "old"), r": set PACKTOOL to the absolute path of packtool \d+\.\d+$"
+        for given, why in [
+            *((it, f"{it}: no working packtool") for it in ("/bin/cat", "/nowhere", "/", str(bare / "HEAD"))),
+            (old, f"{old}: this is packtool 0.4.9 of Nunbirdstand"), ("", "packtool: not on the PATH"),
+            ("false", "/false: no working packtool"), ("nowhere", "nowhere: not on the PATH"),
+            ("./packtool", r"\./packtool: not an absolute path"),
+        ]:  # fmt: skip
             os.environ.update(PACKTOOL=given, PATH=path if given else "")
-            with self.assertRaisesRegex(StoreError, r": no packtool \d+\.\d+ is there: set PACKTOOL to its absolute path$"):
-                Store(bare)
+            self.assertRaisesRegex(StoreError, why + wanted, Store, bare)
         # (the beginning of a line is none, and what is said last is the error)
         for names, wanted in (
             ("printf '0000 01'; kill -9 $$", "packtool was ended by the signal 9"),
@@ -585,7 +590,7 @@ class Stores(unittest.TestCase):
             for path in paths:
                 for given in "", "packtool", "./packtool", "bin/packtool", "../store/packtool":
                     os.environ.update(PACKTOOL=given, PATH=path)
-                    self.assertRaisesRegex(StoreError, "no packtool", Store, bare)
+                    self.assertRaisesRegex(StoreError, "not on the PATH|not an absolute path", Store, bare)
                 # (it goes on behind what is left out)
                 os.environ.update(PACKTOOL="", PATH=f"{path}:{directory}")
                 with Store(bare) as store:

@@ -195,8 +195,9 @@ try:
         _call = getattr(_lib, _name)
         _call.restype, _call.argtypes = _TYPES[_result], [_typed(it)[1] for it in _listed.split(",") if it != "void"]
     _high, _low = map(int, __version__.split(".")[:2])
-    if _lib.gix_hash_version() // 100 != 100 * _high + _low:
-        raise OSError(f"the version of the library is not {_high}.{_low}")
+    _number = _lib.gix_hash_version() // 100
+    if _number != 100 * _high + _low:
+        raise OSError(f"{_lib._name}: its version {_number // 100}.{_number % 100} is not {_high}.{_low}")
 except (OSError, AttributeError) as _error:
     raise ImportError(f"{_error}: set GIX_HASH_LIB to the absolute path of libgix_hash.so, or of its directory") from None
 _Id, _Prefix, _Run, _Entry, _Hasher = (_TYPES[f"gix_hash_{it}"] for it in ("id", "prefix", "run", "entry", "hasher"))
@@ -250,7 +251,10 @@ def _bytes(data: Buffer) -> Tuple[Any, Any, int]:
     """Where bytes are: an object that keeps them there, to slice, and what a call is passed, their address and number."""
     if type(data) is bytes:
         return data, data, len(data)
-    view = memoryview(data)
+    try:
+        view = memoryview(data)
+    except TypeError:
+        raise _wrong(data, "bytes or another buffer") from None
     if view.itemsize != 1:
         raise TypeError(f"items of {view.itemsize} bytes are not bytes")
     given = _View()
@@ -468,7 +472,8 @@ class Prefix:
         """The order of the prefix and as many first digits of an id: -1, 1, or 0 if and only if the id begins with the
         prefix. The error is PREFIX_TOO_LONG if the id has fewer digits."""
         order = int(_lib.gix_hash_prefix_cmp_id(self._prefix, _only(Id, other)._struct))
-        _check(Code.PREFIX_TOO_LONG if order == 2 else 0)
+        if order == 2:
+            _check(Code.PREFIX_TOO_LONG, digits=str(self))
         return order
 
     def __str__(self) -> str:
@@ -545,7 +550,8 @@ class _Table(Sequence[_T]):
         elif not isinstance(prefix, Prefix):
             raise _wrong(prefix, "str, Prefix or Id")
         run = _Run()
-        _check(self._call(*self._given, prefix._prefix, run))
+        if code := self._call(*self._given, prefix._prefix, run):
+            _check(code, digits=str(prefix))
         return range(run.start, run.end)
 
     def _indexes(self, value: object) -> Sequence[int]:

@@ -100,11 +100,15 @@ def _program() -> str:
     """The absolute path of packtool: what the variable PACKTOOL names, or else what is beside this module, or else on the PATH. No
     relative path is followed, since it would lead into the current directory, whose files others may have written."""
     given = os.environ.get("PACKTOOL") or (_BESIDE if os.path.exists(_BESIDE) else "packtool")
-    path = given if os.path.dirname(given) else _on_path(given)
-    wanted = __version__.rpartition(".")[0]
-    if not os.path.isabs(path) or not _version(path).startswith(f"packtool {wanted}."):
-        raise StoreError(f"{path or given}: no packtool {wanted} is there: set PACKTOOL to its absolute path")
-    return path
+    path, wanted = given if os.path.dirname(given) else _on_path(given), f"packtool {__version__.rpartition('.')[0]}"
+    said = _version(path) if os.path.isabs(path) else ""
+    if said.startswith(f"{wanted}."):
+        return path
+    if not os.path.isabs(path):
+        why = "not an absolute path" if path else "not on the PATH"
+    else:
+        why = f"this is {said}" if said.startswith("packtool ") else "no working packtool"
+    raise StoreError(f"{path or given}: {why}: set PACKTOOL to the absolute path of {wanted}")
 
 
 def _on_path(name: str) -> str:
@@ -115,10 +119,10 @@ def _on_path(name: str) -> str:
 
 @functools.lru_cache(maxsize=None)
 def _version(path: str) -> str:
-    """What a program says of its version, or nothing if it cannot be run."""
+    """The line that a program prints of its version, or nothing if it cannot be run."""
     with contextlib.suppress(OSError, subprocess.TimeoutExpired):
         said = subprocess.run([path, "--version"], stdin=subprocess.DEVNULL, capture_output=True, timeout=10).stdout
-        return said.decode("utf-8", "replace")
+        return said.decode("utf-8", "replace").partition("\n")[0]
     return ""
 
 

@@ -9,7 +9,7 @@ use std::os::unix::ffi::OsStringExt;
 use std::os::unix::fs::{FileExt, OpenOptionsExt, PermissionsExt};
 use std::os::unix::process::{CommandExt, ExitStatusExt};
 use std::path::{Path, PathBuf};
-use std::process::{Child, ChildStdin, ChildStdout, Command, Stdio};
+use std::process::{Child, ChildStdin, ChildStdout, Command, Output, Stdio};
 use std::sync::atomic::{AtomicU64, Ordering};
 use std::sync::mpsc::{sync_channel, SyncSender};
 use std::sync::{Mutex, MutexGuard, PoisonError};
@@ -524,17 +524,26 @@ fn program() -> Result<PathBuf> {
     let given = named.or_else(|| beside().filter(|path| path.exists())).unwrap_or("packtool".into());
     let path =
         if given.file_name() == Some(given.as_os_str()) { on_path(&given) } else { Some(given.clone()) };
-    let version = concat!(env!("CARGO_PKG_VERSION_MAJOR"), ".", env!("CARGO_PKG_VERSION_MINOR"));
-    if let Some(path) = path.filter(|path| path.is_absolute()) {
-        let printed =
-            Command::new(&path).arg("--version").stdin(Stdio::null()).stderr(Stdio::null()).output();
-        if printed.map_or(false, |it| it.stdout.starts_with(format!("packtool {version}.").as_bytes())) {
-            return Ok(path);
-        }
-    }
-    let text =
-        format!("{}: no packtool {version} is there: set PACKTOOL to its absolute path", given.display());
+    let wanted = concat!("packtool ", env!("CARGO_PKG_VERSION_MAJOR"), ".", env!("CARGO_PKG_VERSION_MINOR"));
+    let why = match &path {
+        None => "not on the PATH".to_owned(),
+        Some(path) if !path.is_absolute() => "not an absolute path".to_owned(),
+        Some(path) => match version(path) {
+            said if said.starts_with(&format!("{wanted}.")) => return Ok(path.clone()),
+            said if said.starts_with("packtool ") => format!("this is {said}"),
+            _ => "no working packtool".to_owned(),
+        },
+    };
+    let path = path.unwrap_or(given);
+    let text = format!("{}: {why}: set PACKTOOL to the absolute path of {wanted}", path.display());
     Err(io::Error::new(io::ErrorKind::NotFound, text).into())
+}
+
+// The line that a program prints of its version, or nothing if it cannot be run.
+fn version(path: &Path) -> String {
+    let printed = Command::new(path).arg("--version").stdin(Stdio::null()).stderr(Stdio::null()).output();
+    let line = |it: Output| String::from_utf8_lossy(&it.stdout).lines().next().map(str::to_owned);
+    printed.ok().and_then(line).unwrap_or_default()
 }
 
 // The path of a program in the directories of the `PATH` that are absolute. (`Command` would also look in others.)

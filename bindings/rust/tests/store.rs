@@ -385,11 +385,16 @@ fn surroundings() {
         assert_eq!(&found_by_another(directory, path, variables).unwrap(), wanted);
     }
     assert_eq!(Store::open(&one, Some(Kind::Sha256)).unwrap().kind(), Kind::Sha256);
-    for version in ["packtool 0.4.9 of Nunbirdstand", "packtool 10.6.0", "packtool", "git version 2.39.5"] {
+    for (version, why) in [
+        ("packtool 0.4.9 of Nunbirdstand", "this is packtool 0.4.9 of Nunbirdstand"),
+        ("packtool 10.6.0", "this is packtool 10.6.0"),
+        ("packtool", "no working packtool"),
+        ("git version 2.39.5", "no working packtool"),
+    ] {
         let program = one.join("old/packtool");
         script(&program, &format!("echo {version}"));
         let error = found_by_another(top, Some(&one), &[("PACKTOOL", program.as_os_str())]).unwrap_err();
-        assert!(error.starts_with(&format!("{}: no packtool ", program.display())), "{error}");
+        assert!(error.starts_with(&format!("{}: {why}: set PACKTOOL to ", program.display())), "{error}");
     }
     // (the beginning of a line is none, and what is said last is the error)
     for (names, wanted) in [
@@ -518,7 +523,7 @@ fn programs_of_others() {
         {
             let variables = [("PACKTOOL", OsStr::new(given)), ("PATH", OsStr::new(paths))];
             let error = found_by_another(directory, Some(&path), &variables).unwrap_err();
-            assert!(error.contains("no packtool"), "{error}");
+            assert!(error.starts_with("packtool: not on the PATH: "), "{error}");
         }
         // (it goes on behind what is left out)
         let paths = format!("{paths}:{}", directory.display());
@@ -527,7 +532,7 @@ fn programs_of_others() {
     }
     for (directory, given) in [&*path, other].iter().flat_map(|it| relative.map(|given| (it, given))) {
         let error = found_by_another(directory, Some(&path), &[("PACKTOOL", OsStr::new(given))]).unwrap_err();
-        assert!(error.contains("set PACKTOOL to its absolute path"), "{error}");
+        assert!(error.starts_with(&format!("{given}: not an absolute path: ")), "{error}");
     }
     assert!(!mark.exists());
 }
