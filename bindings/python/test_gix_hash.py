@@ -269,6 +269,8 @@ class Bindings(unittest.TestCase):
             ("'HEAD': a byte of the text is not a hex digit", Prefix, "HEAD"),
             (f"'{'g' * 40}': a byte of the text is not a hex digit", Id, "g" * 40),
             (f"'e6': {Code.BAD_LENGTH.text}", Id, "e6"),
+            (f"'{'e' * 76}...: {Code.BAD_LENGTH.text}", Id, "e" * 79),
+            (f"'{'e' * 78}': {Code.BAD_LENGTH.text}", Id, "e" * 78),
             (f"'{EMPTY}': {Code.PREFIX_TOO_LONG.text}", index.find, EMPTY),
             (f"'{EMPTY}': {Code.PREFIX_TOO_LONG.text}", Prefix(EMPTY).cmp, Id(EMPTY[:40])),
             ("expected bytes or another buffer, not 'abc' of the type str", Hasher("sha1").update, "abc"),

@@ -640,7 +640,7 @@ class Stores(unittest.TestCase):
             for text in texts:
                 self.assertRaises(Error, call, text)
             for wrong in (None, 12, b"ab", 1.5, ["ab"]):
-                self.assertRaises(TypeError, call, wrong)
+                self.assertRaisesRegex(TypeError, "^expected str, Prefix or Id, not ", call, wrong)
             for long in (ids[0] + "0", "0" * 64, Prefix("1" * 41), Id("1" * 64)):
                 with self.assertRaises(Error) as raised:
                     call(long)

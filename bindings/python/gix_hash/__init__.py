@@ -207,12 +207,18 @@ _CODES = frozenset(Code)
 def _check(code: int, detail: int = 0, digits: Optional[str] = None) -> None:
     if code:
         error = Error(Code(code), detail) if code in _CODES else Error(Code.UNKNOWN, code)
-        raise error if digits is None else Error(error.code, error.detail, f"{digits!r:.80}: {error}")
+        raise error if digits is None else Error(error.code, error.detail, f"{_shown(digits)}: {error}")
+
+
+def _shown(value: object) -> str:
+    """A value as Python writes it, up to 80 characters."""
+    text = repr(value)
+    return text if len(text) <= 80 else f"{text[:77]}..."
 
 
 def _wrong(value: object, wanted: str) -> TypeError:
     """That a value is of a wrong type, and what was expected."""
-    return TypeError(f"expected {wanted}, not {value!r:.80} of the type {type(value).__name__}")
+    return TypeError(f"expected {wanted}, not {_shown(value)} of the type {type(value).__name__}")
 
 
 def _only(kind: Type[_T], value: _T) -> _T:
@@ -234,7 +240,7 @@ def _member(kind: Type[_M], value: object) -> _M:
     elif isinstance(value, int) and not isinstance(value, (bool, enum.Enum)):
         return kind(value)
     wanted = f"{kind.__name__} or one of {', '.join(repr(str(it)) for it in kind)}"
-    raise ValueError(f"expected {wanted}, not {value!r:.80}") if isinstance(value, str) else _wrong(value, wanted)
+    raise ValueError(f"expected {wanted}, not {_shown(value)}") if isinstance(value, str) else _wrong(value, wanted)
 
 
 def _kind(value: object) -> Kind:

@@ -17,7 +17,7 @@ import weakref
 from collections import deque
 from typing import Any, Deque, Dict, Iterable, Iterator, List, NamedTuple, Optional, Set, Tuple, TypeVar, Union, cast
 
-from gix_hash import _HEADS, Code, Error, Id, Kind, Prefix, __version__, _check, _kind, _only
+from gix_hash import _HEADS, Code, Error, Id, Kind, Prefix, __version__, _check, _kind, _only, _shown, _wrong
 
 __all__ = ["Ambiguous", "Location", "Missing", "SkippedWarning", "Store", "StoreError"]
 
@@ -75,7 +75,7 @@ class Location(NamedTuple):
 def _line(prefix: _Digits) -> str:
     """A prefix as a line, without its end. The error is that of Prefix, and BAD_LENGTH for one digit."""
     if not isinstance(prefix, (str, Prefix, Id)):
-        raise TypeError(f"{prefix!r} is not a str, a Prefix or an Id")
+        raise _wrong(prefix, "str, Prefix or Id")
     line = str.__str__(prefix) if isinstance(prefix, str) else str(prefix)
     if "\n" in line or not _are_lines(f"{line}\n"):
         if line:
@@ -497,7 +497,7 @@ class Store(contextlib.AbstractContextManager["Store"]):
         """Each of many prefixes with the ids that begin with it, in the order of the prefixes. Some 16,000 prefixes are taken
         ahead, in the thread that asks for the pairs. The error of a prefix is raised after the pairs of those before it."""
         if isinstance(prefixes, (str, bytes)):
-            raise TypeError(f"expected prefixes, not {prefixes!r:.80}: put it into a list")
+            raise TypeError(f"expected prefixes, not {_shown(prefixes)}: put it into a list")
         process, asked = self._begin("find", "--stdin", is_bulk=True), deque()  # type: _Process, Deque[List[Tuple[_D, str]]]
         try:
             for chunk in _chunks(prefixes):
