@@ -59,7 +59,7 @@ out/libgix_hash.a: crates/gix_hash_c/out/built
 	install -D -m 644 $(<D)/libgix_hash_c.a $@
 
 out/libgix_hash.so: out/libgix_hash.a
-	$(CC) -shared -Wl,-soname,$(SONAME) -Wl,-z,now -Wl,--no-undefined -o $@ -Wl,--whole-archive $< -Wl,--no-whole-archive
+	$(CC) $(LDFLAGS) -shared -Wl,-soname,$(SONAME) -Wl,-z,now -Wl,--no-undefined -o $@ -Wl,--whole-archive $< -Wl,--no-whole-archive
 
 out/$(SONAME): out/libgix_hash.so
 	ln -sf $(<F) $@
