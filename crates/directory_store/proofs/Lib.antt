@@ -2,3 +2,4 @@ mod Clones
 mod FileNames
 mod IndexLists
 mod DirectoryTables
+mod LoosePaths

@@ -1,3 +1,5 @@
 -- Object stores in directories.
-pub mod Stores
 pub mod Packs
+pub mod Paths
+pub mod Printed
+pub mod Stores

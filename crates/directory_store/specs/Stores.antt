@@ -9,12 +9,13 @@ use Rattle.object_store.specs.declared.error.Error as look_ups
 use Rattle.object_store.specs.declared.error.Error.TheVariants as look_up_errors
 use Rattle.pack_index.specs.declared.lazy_error.LazyError.{LazyError}
 use Rattle.pack_index.specs.declared.lazy_error.LazyError.TheVariants.{Read}
-use Rattle.repositories.specs.Paths.{hex_of, loose_path}
-use Rattle.repositories.specs.Printed.{IsNotPrinted, IsPrinted}
 use Rattle.repositories.specs.States.{IsSettled}
+use Rattle.repositories.specs.Stores.{hex_of}
 use Rattle.repositories.specs.declared.error.Error as repositories
 use Rattle.repositories.specs.declared.error.Error.TheVariants as repository_errors
 use Rattle.repositories.specs.declared.state.FileState.{FileState}
+use Rattle.directory_store.specs.Paths.{loose_path}
+use Rattle.directory_store.specs.Printed.{IsNotPrinted, IsPrinted}
 use Rattle.directory_store.specs.declared.error.Error.{Error}
 use Rattle.directory_store.specs.declared.error.Error.TheVariants.{Changed, Index, Memory, Repository}
 use Rattle.directory_store.specs.declared.loose.LooseDirectory.{LooseDirectory}

@@ -3,17 +3,17 @@
 ghost use Rattle.std.specs.Prelude.{◌≡◌, ◌≢◌, ◌<◌, ◌*◌, ◌++◌, ◌∷◌, ◌==◌, All, IfOk, IfSome, IsNone, MatchOption, None, OnOk, false, length, map, string_bytes, vec_len};
 ghost use Rattle.std.specs.List.{slice_split};
 ghost use Rattle.gix_hash.specs.Words.{hex_letter, id_digits, id_kind};
-ghost use Rattle.repositories.specs.Paths.{hex_of};
+ghost use Rattle.repositories.specs.Stores.{hex_of};
 ghost use Rattle.directory_store.specs.Stores.{AppendsLooseIds, AreAllOf, AreSettled, IsLooseId, fan_outs_of, only_of, path_in, paths_in};
 
 use crate::error::Error;
 use crate::listing::{
     are_settled, expect_state, expect_states, list_names, state_if_there, state_of, states_of,
 };
+use crate::paths::write_loose_path;
+use crate::printed::read_printed;
 use gix_hash::{Kind, ObjectId};
 use object_store::LooseTable;
-use repositories::paths::write_loose_path;
-use repositories::printed::read_printed;
 use repositories::{Directories, FileState};
 use std::alloc::{AllocError, Global};
 use std::io;

@@ -3,7 +3,7 @@ use Rattle.gix_hash.proofs.Std.{◌≡◌, ◌<◌, ◌/◌, ◌%◌, ◌^◌, �
 use Rattle.std.specs.Fmt.{digit_glyph, digits, format_spec, padded_integral}
 use Rattle.std.proofs.lemmas.Fmt.{hex_byte}
 use Rattle.gix_hash.specs.Words.{hex_letter}
-use Rattle.repositories.specs.Paths.{hex_of}
+use Rattle.repositories.specs.Stores.{hex_of}
 
 glyph_is : (digit : ℕ) → digit < 16 → digit_glyph false digit ≡ hex_letter digit
 glyph_is digit low = grind (arith, nat_tests)

@@ -1,7 +1,6 @@
 mod Entries
 pub mod HexBytes
 mod LineEnds
-mod LoosePaths
 mod Quoted
 mod Settings
 mod Visits

@@ -4,8 +4,6 @@ pub mod Discovery
 pub mod Formats
 pub mod Heads
 pub mod Lookups
-pub mod Paths
-pub mod Printed
 pub mod Quoting
 pub mod States
 pub mod Stores

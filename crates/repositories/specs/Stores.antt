@@ -1,10 +1,10 @@
 -- Whether a directory is an object directory, by what directories and files answer.
-use Rattle.std.specs.Prelude.{ℕ, zero, suc, Bool, true, false, if◌then◌else◌, Option, Some, None, List, codes, string_bytes}
+use Rattle.std.specs.Prelude.{ℕ, ◌/◌, ◌%◌, ◌∷◌, [], zero, suc, Bool, true, false, if◌then◌else◌, Option, Some, None, List, codes, string_bytes}
 use Rattle.std.specs.Path.{path_join}
+use Rattle.gix_hash.specs.Words.{hex_letter}
 use Rattle.repositories.specs.Answers.{◌>>=◌, Answers}
 use Rattle.repositories.specs.Discovery.{or_next}
 use Rattle.repositories.specs.Lookups.{is_directory, is_file}
-use Rattle.repositories.specs.Paths.{hex_of}
 use Rattle.repositories.specs.declared.error.Cause.{Cause}
 use Rattle.repositories.specs.declared.error.Cause.TheVariants.{NoStoreButIn}
 
@@ -12,6 +12,10 @@ infixr 10 ◌or_else◌
 -- whether one test holds or the other does, which is only made if the first does not hold
 abbrev pub ◌or_else◌ : Option Bool → Option Bool → Option Bool
 test or_else other = test >>= λ holds. if holds then Some true else other
+
+-- the two hex digits of a byte
+abbrev pub hex_of : ℕ → List ℕ
+hex_of byte = hex_letter (byte / 16) ∷ hex_letter (byte % 16) ∷ []
 
 -- whether a directory has one of the first so many fan-out directories, of which the last is looked at first
 unfoldable pub has_fan_out : ℕ → List ℕ → Answers → Option Bool

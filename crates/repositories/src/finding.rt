@@ -3,16 +3,16 @@
 ghost use Rattle.std.specs.Prelude.{◌≡◌, ◌++◌, ◌∷◌, suc, IfOk, OnOk, Some, [], map, option_copied, option_map, string_bytes, true};
 ghost use Rattle.repositories.specs.Answers.{Finds, IfKnown};
 ghost use Rattle.repositories.specs.Discovery.{HasKind, HasKindBeside, IsObjectDirectory, alternate_in, alternates_of, objects_of};
-ghost use Rattle.repositories.specs.Stores.{has_fan_out, if_store, is_store, objects_in, store_in};
+ghost use Rattle.repositories.specs.Stores.{has_fan_out, hex_of, if_store, is_store, objects_in, store_in};
 ghost use Rattle.repositories.specs.Views.{repository_of};
 
 use crate::alternates::alternate_paths;
 use crate::directories::Directories;
 use crate::error::{Cause, Error};
 use crate::files::{has_directory, is_file, join, kind_beside, kind_by_config, push_path};
-use crate::paths::hex_of;
 use crate::repository::{Environment, Repository, Search};
 use gix_hash::Kind;
+use std::alloc::AllocError;
 use std::env;
 use std::io::ErrorKind;
 use std::rt::Env;
@@ -242,6 +242,13 @@ fn has_fan_out<R: Directories>(rt: &R, path: &str, byte: u8) -> Result<bool, Err
         return Ok(false);
     }
     has_fan_out(rt, path, byte - 1)
+}
+
+// The two hex digits of a byte.
+fn hex_of(rt: &impl AllocGlobal, byte: u8) -> Result<String, AllocError>
+    ensures { IfOk result (λ digits. string_bytes digits ≡ hex_of byte) }
+{
+    format!(in rt.alloc(); "{byte:02x}")
 }
 
 // Why a directory is no object directory.

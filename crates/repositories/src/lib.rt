@@ -1,6 +1,5 @@
-//! Git's repositories: where their objects are (gitrepository-layout), and Git's texts around
-//! object ids: paths of loose objects, lists of alternates, a repository's format in its config,
-//! and ids in lines.
+//! Git's repositories: where their objects are (gitrepository-layout), lists of alternates, and a
+//! repository's format in its config.
 //!
 //! [`find_objects`] finds the object directory of the repository that a program runs in, and
 //! [`with_alternates`] the directories whose objects it borrows.
@@ -15,10 +14,6 @@ mod error;
 mod files;
 mod finding;
 mod object_directories;
-/// Paths of loose objects.
-pub mod paths;
-/// Ids in texts.
-pub mod printed;
 mod repository;
 mod state;
 

@@ -1,6 +1,6 @@
 use Rattle.gix_hash.proofs.Std.{◌≡◌, ◌∷◌, ◌∙◌, ◌^◌, ◌-◌, ℕ, List, [], IfOk, IfSome, Option, Some, ap, false, option_map, string_bytes, subst}
 use Rattle.std.specs.Fmt.{format_spec, option_append, padded_integral, styled_digits_output}
-use Rattle.repositories.specs.Paths.{hex_of}
+use Rattle.repositories.specs.Stores.{hex_of}
 use Rattle.repositories.proofs.HexBytes.{two_digits}
 use Rattle.directory_store.proofs.loose.fan_out.Goals as goal
 

@@ -3,7 +3,7 @@ use Rattle.gix_hash.proofs.Std.{◌++◌, ◌∷◌, [], ◌≡◌, ◌-◌, ◌
 use Rattle.gix_hash.specs.Words.{hex_len_of, hex_letter, spelling}
 use Rattle.gix_hash.specs.declared.kind.Kind.{Kind}
 use Rattle.gix_hash.specs.declared.kind.Kind.TheVariants.{Sha1, Sha256}
-use Rattle.repositories.specs.Paths.{loose_path}
+use Rattle.directory_store.specs.Paths.{loose_path}
 
 -- the first two letters, a slash and the others, one after another
 pub written : (a b c d : Option (List ℕ)) (digits rest buffer : List ℕ) (n : ℕ) → buffer ≡ spelling hex_letter digits ++ rest → length digits ≡ n → 2 ≤ n

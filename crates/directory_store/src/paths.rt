@@ -1,14 +1,13 @@
 //! Where loose objects lie below the directory `objects` (gitrepository-layout): in a directory of
 //! their first two digits.
 
-ghost use Rattle.std.specs.Prelude.{◌≡◌, ◌≢◌, ◌≤◌, ◌+◌, ◌++◌, take, ℕ, List, IfOk, OnOk, MatchOption, length, string_bytes};
+ghost use Rattle.std.specs.Prelude.{◌≡◌, ◌≢◌, ◌≤◌, ◌+◌, ◌++◌, take, ℕ, List, OnOk, MatchOption, length};
 ghost use Rattle.std.specs.Io.KnownBytes.{Appends};
 ghost use Rattle.gix_hash.specs.Words.{AreIdDigits, id_digits, id_kind};
-ghost use Rattle.repositories.specs.Paths.{hex_of, loose_path};
+ghost use Rattle.directory_store.specs.Paths.{loose_path};
 
 use crate::printed::{after_key, read_printed};
 use gix_hash::{Kind, ObjectId};
-use std::alloc::AllocError;
 use std::io;
 
 /// Writes `4b/825dc6..`, the path of a loose object below the object directory, in lowercase and
@@ -40,13 +39,6 @@ pub fn read_loose_path(kind: Kind, path: &[u8]) -> Option<ObjectId>
     let mut digits = [0; 64];
     put_both(directory, file, &mut digits);
     read_printed(kind, &digits[..directory.len() + file.len()])
-}
-
-// The two hex digits of a byte.
-pub(crate) fn hex_of(rt: &impl AllocGlobal, byte: u8) -> Result<String, AllocError>
-    ensures { IfOk result (λ digits. string_bytes digits ≡ hex_of byte) }
-{
-    format!(in rt.alloc(); "{byte:02x}")
 }
 
 // Writes two slices to the front of a buffer, one after the other.

@@ -1,7 +1,7 @@
 use Rattle.gix_hash.proofs.Std.{rules, ◌≡◌, ◌-◌, subst, take, drop, Appends}
 use Rattle.gix_hash.specs.Words.{hex_len_of, id_kind}
-use Rattle.repositories.proofs.LoosePaths.{written, two_or_more}
-use Rattle.repositories.proofs.paths.write_loose_path.Goals as goal
+use Rattle.directory_store.proofs.LoosePaths.{written, two_or_more}
+use Rattle.directory_store.proofs.paths.write_loose_path.Goals as goal
 
 pub returns : goal.returns
 returns g c =

@@ -1,8 +1,8 @@
 use Rattle.gix_hash.proofs.Std.{◌≡◌, ◌∙◌, ◌^◌, ◌-◌, ℕ, List, [], IfOk, IfSome, Option, Some, ap, false, option_map, string_bytes, subst}
 use Rattle.std.specs.Fmt.{format_spec, padded_integral, styled_digits_output}
-use Rattle.repositories.specs.Paths.{hex_of}
+use Rattle.repositories.specs.Stores.{hex_of}
 use Rattle.repositories.proofs.HexBytes.{two_digits}
-use Rattle.repositories.proofs.paths.hex_of.Goals as goal
+use Rattle.repositories.proofs.finding.hex_of.Goals as goal
 
 pub returns : goal.returns
 returns g c =
