@@ -8,7 +8,7 @@ pub record Variable : Type 0 where
   pub name : List ℕ
   pub value : Option (List ℕ)
 
--- What is at the front of a text, and the rest; or where Git stops, as the number of bytes that it has not read. A line feed is added to the text for this, since Git reads the end of a text as one.
+-- what was read from the front of a text, and the rest; or where Git stops, as the number of bytes that are left. This number counts a line feed after the text, since Git reads the end of a text as one
 abbrev pub Read : Type 0 → Type 0
 Read T = Result (T × List ℕ) ℕ
 
@@ -22,51 +22,51 @@ abbrev pub ◌>>=◌ : {A B : Type 0} → Result A ℕ → (A → Result B ℕ) 
 abbrev pub is_space : ℕ → Bool
 is_space byte = byte == 32 || byte == 9
 
--- whether it is one of these or a carriage return
+-- whether a byte is a space, a tab or a carriage return
 abbrev pub is_blank : ℕ → Bool
 is_blank byte = is_space byte || byte == 13
 
--- whether a comment begins with it
+-- whether a comment begins with this byte
 abbrev pub begins_comment : ℕ → Bool
 begins_comment byte = byte == 35 || byte == 59
 
--- whether a key may have it
+-- whether a key may have this byte
 abbrev pub is_key_byte : ℕ → Bool
 is_key_byte byte = is_ascii_alphanumeric byte || byte == 45
 
--- whether a section's name may have it
+-- whether a section's name may have this byte
 abbrev pub is_name_byte : ℕ → Bool
 is_name_byte byte = is_key_byte byte || byte == 46
 
--- what is after the bytes that pass
+-- a text without the bytes at its front that pass a test
 abbrev pub past : (ℕ → Bool) → List ℕ → List ℕ
 past test text = drop (prefix_len test text) text
 
--- what is after the line
+-- a text without its first line
 abbrev pub after_line : List ℕ → List ℕ
 after_line text = after_first (λ byte. byte == 10) text
 
--- whether a line feed is next
+-- whether a text begins with a line feed
 abbrev pub begins_line : List ℕ → Bool
 begins_line [] = false
 begins_line (byte ∷ rest) = byte == 10
 
--- whether a line ends here: by a line feed, before which there may be a carriage return, or with the text
+-- whether a line ends at the front of a text: by a line feed, before which there may be a carriage return, or with the text
 abbrev pub ends_line : List ℕ → Bool
 ends_line [] = true
 ends_line (byte ∷ rest) = byte == 10 || byte == 13 && begins_line rest
 
--- this byte is next
+-- a text without this byte, which has to be its first
 abbrev pub expect : ℕ → List ℕ → Result (List ℕ) ℕ
 expect byte [] = Err 1
 expect byte (first ∷ rest) = if first == byte then Ok rest else Err (length rest + 2)
 
--- the bracket that closes a header with a subsection is next; another byte in its place counts as read, and so does a whole line end
+-- a text without the bracket that closes a header with a subsection, which has to be its first byte. Another byte in its place counts as read, and so does a whole line end
 abbrev pub close : List ℕ → Result (List ℕ) ℕ
 close [] = Err 0
 close (byte ∷ rest) = if byte == 93 then Ok rest else Err (if byte == 13 && begins_line rest then length rest else length rest + 1)
 
--- The rest of a subsection, up to its quotation mark. The first argument says whether a backslash is before it, after which a byte stands for itself. The second is the name so far.
+-- the rest of a subsection, up to its quotation mark. The first argument says whether a backslash is before it, after which a byte stands for itself. The second is the name so far
 abbrev pub quoted : Bool → List ℕ → List ℕ → Read (List ℕ)
 quoted escaped name [] = Err 1
 quoted escaped name (byte ∷ rest) =
@@ -86,13 +86,13 @@ header_end name (byte ∷ rest) =
 abbrev pub header : List ℕ → Read (List ℕ)
 header text = header_end (map to_ascii_lowercase (take_while is_name_byte text)) (past is_name_byte text)
 
--- What a byte of a value is: the end, a space outside quotation marks, or a byte that stands for these bytes, with whether what follows it is in quotation marks, and after a backslash.
+-- what a byte of a value is: the end; a space outside quotation marks; or a byte that stands for these bytes, with whether what follows is in quotation marks, and whether it is after a backslash
 pub data Piece : Type 0 where
   End : Piece
   Blank : Piece
   Means : List ℕ → Bool → Bool → Piece
 
--- what this byte is, in quotation marks or not, after a backslash or not
+-- what this byte of a value is, in quotation marks or not, after a backslash or not
 abbrev pub piece : Bool → Bool → ℕ → List ℕ → Result Piece ℕ
 piece in_quotes true byte rest =
     if byte == 10 then Ok (Means [] in_quotes false) else
@@ -108,7 +108,7 @@ piece in_quotes false byte rest =
     if begins_comment byte && not in_quotes then Ok End else
     if is_blank byte && not in_quotes then Ok Blank else Ok (Means (byte ∷ []) in_quotes false)
 
--- The rest of a value, after these bytes. A space, a tab or a carriage return is read as a space, but those before the first other byte and after the last one are left out: this many bytes are kept if the value ends here.
+-- the rest of a value, after these bytes. A space, a tab or a carriage return is read as a space, but those before the first other byte and after the last one are left out: this many bytes are kept if the value ends here
 abbrev pub value : Bool → Bool → List ℕ → ℕ → List ℕ → Read (List ℕ)
 value in_quotes escaped bytes kept [] = if in_quotes then Err (if escaped then 0 else 1) else Ok (take kept bytes, [])
 value in_quotes escaped bytes kept (byte ∷ rest) = piece in_quotes escaped byte rest >>= λ found. elim found [
@@ -130,7 +130,7 @@ abbrev pub variable : List ℕ → List ℕ → Read Variable
 variable name text = assignment (past is_space (past is_key_byte text)) >>= λ read.
     Ok (record { name = before_nul (name ++ map to_ascii_lowercase (take_while is_key_byte text)); value = option_map before_nul read.0 }, read.1)
 
--- What a text in a section begins with: spaces and comments, which are nothing, a header or a variable. The section after it, and the variable if it is one.
+-- what a text in a section begins with, white space, a comment, a header or a variable: the section after it, and the variable if it is one
 abbrev pub item : List ℕ → ℕ → List ℕ → Read (List ℕ × Option Variable)
 item section byte rest =
     if is_blank byte || byte == 10 then Ok ((section, None), rest) else
@@ -138,7 +138,7 @@ item section byte rest =
     if byte == 91 then (header rest >>= λ read. Ok ((read.0, None), read.1)) else
     if is_ascii_alphabetic byte then (variable (section ++ to_ascii_lowercase byte ∷ []) rest >>= λ read. Ok ((section, Some read.0), read.1)) else Err (length rest + 1)
 
--- A text in this section has these variables, up to its end or up to where Git stops, and how many bytes are left then. By `one_reading` it has no others.
+-- a text in this section has these variables, up to its end or up to where Git stops, with this many bytes left. By `one_reading` it has no others
 pub data Reads : List ℕ → List ℕ → List Variable → Option ℕ → Type 0 where
   ends : (section : List ℕ) → Reads section [] [] None
   stops : (section : List ℕ) (byte : ℕ) (rest : List ℕ) (left : ℕ) → item section byte rest ≡ Err left → Reads section (byte ∷ rest) [] (Some left)
@@ -148,7 +148,7 @@ pub data Reads : List ℕ → List ℕ → List Variable → Option ℕ → Type
 abbrev pub without_mark : List ℕ → List ℕ
 without_mark text = if bytes_eq (take 3 text) (239 ∷ 187 ∷ 191 ∷ []) then drop 3 text else text
 
--- the number of the line, from 1, in which Git stops when this many bytes are left, of the text and a line feed after it
+-- the number of the line, from 1, in which Git stops if this many bytes are left of the text and a line feed after it
 abbrev pub line_number : List ℕ → ℕ → ℕ
 line_number text left = count_by (λ byte. byte == 10) (take (length text - (left - 1)) text) + (if left == 0 then 2 else 1)
 

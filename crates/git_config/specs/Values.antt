@@ -9,12 +9,12 @@ use Rattle.git_config.specs.Grammar.{past}
 abbrev pub is_c_space : ℕ → Bool
 is_c_space byte = byte == 32 || nat_le 9 byte && nat_le byte 13
 
--- the number that digits in a base mean after those of n, if all are digits and it has at most 31 bits
+-- the number of at most 31 bits that the digits of n and these mean in a base, if all are digits
 abbrev pub numeral_after : ℕ → ℕ → List ℕ → Option ℕ
 numeral_after base n [] = Some n
 numeral_after base n (digit ∷ rest) = if nat_lt (digit_value digit) base && nat_lt (n * base + digit_value digit) (2 ^ 31) then numeral_after base (n * base + digit_value digit) rest else None
 
--- the number that digits in a base mean, of which there is one at least
+-- the number that digits mean in a base; there has to be one
 abbrev pub numeral : ℕ → List ℕ → Option ℕ
 numeral base [] = None
 numeral base (digit ∷ rest) = numeral_after base 0 (digit ∷ rest)
@@ -24,18 +24,18 @@ abbrev pub magnitude : List ℕ → Option ℕ
 magnitude text =
     if slice_index text 0 == 48 then (if slice_index text 1 == 120 || slice_index text 1 == 88 then numeral 16 (drop 2 text) else numeral 8 text) else numeral 10 text
 
--- what a letter after a number multiplies it by, or 1 if it is no such letter
+-- the factor that a letter after a number means, or 1 if it means none
 abbrev pub unit : ℕ → ℕ
 unit letter =
     if letter == 107 || letter == 75 then 2 ^ 10 else
     if letter == 109 || letter == 77 then 2 ^ 20 else
     if letter == 103 || letter == 71 then 2 ^ 30 else 1
 
--- a number times a unit, if it has at most 31 bits
+-- the product of a unit and a number, if it has at most 31 bits
 abbrev pub times : ℕ → ℕ → Option ℕ
 times unit number = if nat_lt (number * unit) (2 ^ 31) then Some (number * unit) else None
 
--- the number that digits mean, and maybe a letter after them
+-- the number that digits mean, with a letter after them if there is one
 abbrev pub scaled : List ℕ → Option ℕ
 scaled text =
     let by = unit (slice_index text (length text - 1)) in
@@ -49,7 +49,7 @@ number text =
     if sign == 45 then option_map (λ size. pos 0 -ℤ pos size) (scaled (drop 1 signed)) else
     option_map pos (scaled (if sign == 43 then drop 1 signed else signed))
 
--- the texts that are booleans, beside numbers
+-- the words that are booleans
 abbrev pub boolean_words : List (List ℕ)
 boolean_words = [] ∷ codes "true" ∷ codes "yes" ∷ codes "on" ∷ codes "false" ∷ codes "no" ∷ codes "off" ∷ []
 

@@ -1,4 +1,4 @@
-//! The text of a Git config (git-config).
+//! Reads the text of a Git config (git-config).
 #![tactic(auto)]
 
 ghost use Rattle.std.specs.Prelude.{IfOk, map};
@@ -12,19 +12,20 @@ use crate::syntax::{Stop, line_number, read_item, without_mark};
 use std::alloc::{AllocError, Global};
 pub use values::{is_boolean, number};
 
-/// A variable.
+/// A variable of a config.
 #[derive(Drop)]
 pub struct Variable {
-    /// Its name: section, subsection and key, with dots between. Section and key are in lowercase.
+    /// The name is made of the section, the subsection and the key, with dots between them. The
+    /// section and the key are in lowercase.
     pub name: Vec<u8>,
-    /// Its value, or `None` if there is no `=`.
+    /// The value, or `None` if no `=` follows the key.
     pub value: Option<Vec<u8>>,
 }
 
 /// The variables of a config, up to its first bad line.
 #[derive(Drop)]
 pub struct Config {
-    /// The variables in order.
+    /// The variables, in the order of the text.
     pub variables: Vec<Variable>,
     /// The number of the first line that is neither a section nor a variable, counted from 1, or
     /// `None` if there is no such line. As in Git, it is the next number if the line ends after a
@@ -33,7 +34,7 @@ pub struct Config {
     pub bad_line: Option<usize>,
 }
 
-/// Reads the text of a config, up to its first bad line.
+/// Reads the text of a config, up to its first bad line. The error is that memory runs out.
 pub fn read(alloc: Global, text: &[u8]) -> Result<Config, AllocError>
     ensures { IfOk result (λ config.
         IsConfig text.now (map said config.variables.items) config.bad_line) }

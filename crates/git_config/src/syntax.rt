@@ -15,8 +15,8 @@ use std::slice::from_ref;
 pub(crate) enum Stop {
     /// There is not enough memory.
     Memory,
-    /// A byte is wrong, or the text ends where it must not. So many bytes of the text, and of a
-    /// line feed after it, were not read then.
+    /// A byte is wrong, or the text ends where it must not. This is the number of bytes that are
+    /// left of the text and a line feed after it.
     Wrong(usize),
 }
 
@@ -39,7 +39,8 @@ impl<T: Drop> From<AllocFailed<T>> for Stop {
 // What was read from a text, and the rest.
 type Read<'a, T> = Result<(T, &'a [u8]), Stop>;
 
-/// Reads what a text in a section begins with, a variable or something else.
+/// Reads what a text in a section begins with, and returns it if it is a variable. A header sets
+/// the section.
 pub(crate) fn read_item<'a>(
     alloc: Global,
     section: &mut Vec<u8>,
@@ -68,7 +69,7 @@ pub(crate) fn read_item<'a>(
     }
 }
 
-// Reads what follows the name of a section: maybe a subsection, and the closing bracket.
+// Reads what follows the name of a section: a subsection if there is one, and the closing bracket.
 fn end_header(mut name: Vec<u8>, text: &[u8]) -> Read<'_, Vec<u8>>
     ensures { GivesFrom text.now (λ name. name.items) result (header_end name.items text.now) }
 {
@@ -111,7 +112,7 @@ fn read_quoted(mut name: Vec<u8>, text: &[u8]) -> Read<'_, Vec<u8>>
     Err(Stop::Wrong(1))
 }
 
-// Reads a variable, whose name begins with these bytes.
+// Reads the rest of a variable, whose name begins with these bytes.
 fn read_variable(alloc: Global, mut name: Vec<u8>, text: &[u8]) -> Read<'_, Variable>
     ensures { GivesFrom text.now said result (variable name.items text.now) }
 {
@@ -141,7 +142,7 @@ fn read_value(alloc: Global, text: &[u8]) -> Read<'_, Vec<u8>>
         (value false false [] 0 text.now) }
 {
     let mut bytes = Vec::new(alloc);
-    // How many of the bytes are kept if the value ends: all except the spaces at its end.
+    // This many bytes are kept if the value ends here: all except the spaces at its end.
     let mut kept = 0;
     let mut in_quotes = false;
     let mut escaped = false;
@@ -175,16 +176,16 @@ fn read_value(alloc: Global, text: &[u8]) -> Read<'_, Vec<u8>>
 
 // What a byte of a value is.
 enum Piece<'a> {
-    // The end.
+    // The value ends.
     End,
-    // A space outside quotation marks.
+    // The byte is a space outside quotation marks.
     Blank,
-    // A byte that stands for these bytes, and whether what follows it is in quotation marks, and
-    // after a backslash.
+    // The byte stands for these bytes. What follows is in quotation marks, or not, and after a
+    // backslash, or not.
     Means(&'a [u8], bool, bool),
 }
 
-// What this byte is, in quotation marks or not, and after a backslash or not.
+// What this byte of a value is, in quotation marks or not, and after a backslash or not.
 fn piece_at<'a>(
     in_quotes: bool,
     escaped: bool,
@@ -215,7 +216,7 @@ fn piece_at<'a>(
     }
 }
 
-// The rest after this byte, which must be next.
+// A text without this byte, which has to be its first.
 fn expect(text: &[u8], byte: u8) -> Result<&[u8], Stop>
     ensures { Gives (λ rest. rest.now) result (expect byte text.now)
         × IfOk result (λ rest. length rest.now ≤ length text.now) }
@@ -226,8 +227,8 @@ fn expect(text: &[u8], byte: u8) -> Result<&[u8], Stop>
     }
 }
 
-// The rest after the bracket that closes a header with a subsection. Another byte in its place
-// counts as read, and so does a whole line end.
+// A text without the bracket that closes a header with a subsection, which has to be its first
+// byte. Another byte in its place counts as read, and so does a whole line end.
 fn close(text: &[u8]) -> Result<&[u8], Stop>
     ensures { Gives (λ rest. rest.now) result (close text.now)
         × IfOk result (λ rest. length rest.now ≤ length text.now) }
@@ -239,7 +240,7 @@ fn close(text: &[u8]) -> Result<&[u8], Stop>
     }
 }
 
-// How many bytes a key has, at the front of a text.
+// The length of the key at the front of a text, in bytes.
 fn key_len(text: &[u8]) -> usize
     ensures len { result ≡ prefix_len is_key_byte text.now }
     ensures bound { result ≤ length text.now }
@@ -249,7 +250,7 @@ fn key_len(text: &[u8]) -> usize
         .count()
 }
 
-// How many bytes the name of a section has, without a subsection.
+// The length of the section's name at the front of a text, in bytes.
 fn name_len(text: &[u8]) -> usize
     ensures len { result ≡ prefix_len is_name_byte text.now }
     ensures bound { result ≤ length text.now }
@@ -259,7 +260,7 @@ fn name_len(text: &[u8]) -> usize
         .count()
 }
 
-// How many blanks there are.
+// The number of spaces, tabs and carriage returns at the front of a text.
 fn blanks_len(text: &[u8]) -> usize
     ensures len { result ≡ prefix_len is_blank text.now }
     ensures bound { result ≤ length text.now }
@@ -269,7 +270,7 @@ fn blanks_len(text: &[u8]) -> usize
         .count()
 }
 
-// How many spaces and tabs there are.
+// The number of spaces and tabs at the front of a text.
 fn spaces_len(text: &[u8]) -> usize
     ensures len { result ≡ prefix_len is_space text.now }
     ensures bound { result ≤ length text.now }
@@ -279,7 +280,7 @@ fn spaces_len(text: &[u8]) -> usize
         .count()
 }
 
-// What is after the line that a text is in.
+// A text without its first line.
 fn after_line(text: &[u8]) -> &[u8]
     ensures { result.now ≡ after_line text.now }
 {
@@ -289,7 +290,7 @@ fn after_line(text: &[u8]) -> &[u8]
     }
 }
 
-// The bytes before the first NUL.
+// The bytes of a text before its first NUL.
 fn before_nul(mut text: Vec<u8>) -> Vec<u8>
     ensures { result.items ≡ before_nul text.items }
 {
@@ -299,7 +300,7 @@ fn before_nul(mut text: Vec<u8>) -> Vec<u8>
     text
 }
 
-// Where a byte is first.
+// The position of the first byte of this value.
 fn position_of(text: &[u8], wanted: u8) -> Option<usize>
     ensures { result ≡ position (λ byte. byte == wanted) text.now }
 {
@@ -313,7 +314,7 @@ pub(crate) fn without_mark(text: &[u8]) -> &[u8]
     text.strip_prefix(b"\xef\xbb\xbf").unwrap_or(text)
 }
 
-/// The number of the line, from 1, in which reading stops when so many bytes are left, of the text
+/// The number of the line, from 1, in which reading stops if this many bytes are left of the text
 /// and a line feed after it.
 pub(crate) fn line_number(text: &[u8], left: usize) -> usize
     ensures { result ≡ line_number text.now left }

@@ -6,10 +6,10 @@ ghost use Rattle.std.specs.Str.{str_eq_ignore_ascii_case};
 ghost use Rattle.git_config.specs.Grammar.{past};
 ghost use Rattle.git_config.specs.Values.{is_boolean, is_c_space, magnitude, number, numeral, scaled, times, unit};
 
-// The texts that are booleans, beside numbers.
+// The words that are booleans.
 const BOOLEAN_WORDS: [&str; 7] = ["", "true", "yes", "on", "false", "no", "off"];
 
-/// Whether a value is a boolean: a word for one, a number or no value at all.
+/// Whether a value is a boolean: a word for one in any case of letters, a number, or no value.
 pub fn is_boolean(value: &Option<Vec<u8>>) -> bool
     ensures { result ≡ is_boolean (option_map (λ text. text.items) value.now) }
 {
@@ -35,9 +35,10 @@ fn is_in_any_case(text: &[u8], word: &[u8]) -> bool
     text.eq_ignore_ascii_case(word)
 }
 
-/// The number that a value is, as Git reads it: spaces, a sign, digits in base 10, after `0` in
-/// base 8 or after `0x` in base 16, and maybe a letter for times 2^10, 2^20 or 2^30. It has at most
-/// 31 bits and a sign.
+/// The number that a value is, as Git reads it, or `None` if it is none. Spaces and a sign may come
+/// first. The digits are in base 10, in base 8 after `0` and in base 16 after `0x`. A letter `k`,
+/// `m` or `g` in any case multiplies them by 2^10, 2^20 or 2^30. The number has at most 31 bits and
+/// a sign.
 pub fn number(text: &[u8]) -> Option<i64>
     ensures { result ≡ number text.now }
 {
@@ -48,7 +49,7 @@ pub fn number(text: &[u8]) -> Option<i64>
     }
 }
 
-// The number below 0 of this size.
+// This number with the sign changed.
 fn negative(size: u64) -> Option<i64>
     requires { size < 2 ^ 31 }
     ensures { result ≡ Some (pos 0 -ℤ pos size) }
@@ -56,14 +57,14 @@ fn negative(size: u64) -> Option<i64>
     Some(-(size as i64))
 }
 
-// The bytes from the first one on that is not a space, as C defines spaces.
+// A text without the spaces at its front, as C defines spaces.
 fn after_spaces(text: &[u8]) -> &[u8]
     ensures { result.now ≡ past is_c_space text.now }
 {
     &text[spaces_len(text)..]
 }
 
-// How many spaces there are at the front, as C defines spaces.
+// The number of spaces at the front of a text, as C defines spaces.
 fn spaces_len(text: &[u8]) -> usize
     ensures len { result ≡ prefix_len is_c_space text.now }
     ensures bound { result ≤ length text.now }
@@ -73,7 +74,7 @@ fn spaces_len(text: &[u8]) -> usize
         .count()
 }
 
-// The number that digits mean, and maybe a unit after them.
+// The number that digits mean, with a unit after them if there is one.
 fn scaled(text: &[u8]) -> Option<u64>
     ensures value { result ≡ scaled text.now }
     ensures bits { IfSome result (λ size. size < 2 ^ 31) }
@@ -85,7 +86,7 @@ fn scaled(text: &[u8]) -> Option<u64>
     }
 }
 
-// The number times a unit, if it has at most 31 bits.
+// The product of a unit and a number, if it has at most 31 bits.
 fn times(unit: u64, number: u64) -> Option<u64>
     requires unit_bound { unit ≤ 2 ^ 30 }
     requires number_bound { number < 2 ^ 31 }
@@ -96,7 +97,7 @@ fn times(unit: u64, number: u64) -> Option<u64>
     if size < 1 << 31 { Some(size) } else { None }
 }
 
-// What a letter after a number multiplies it by, or 1 if it is no such letter.
+// The factor that a letter after a number means, or 1 if it means none.
 fn unit(letter: u8) -> u64
     ensures value { result ≡ unit letter }
     ensures bound { result ≤ 2 ^ 30 }
@@ -109,7 +110,7 @@ fn unit(letter: u8) -> u64
     }
 }
 
-// The number that digits mean, with the base before them.
+// The number that digits mean in the base that they begin with.
 fn magnitude(text: &[u8]) -> Option<u64>
     ensures value { result ≡ magnitude text.now }
     ensures bits { IfSome result (λ size. size < 2 ^ 31) }
@@ -121,7 +122,7 @@ fn magnitude(text: &[u8]) -> Option<u64>
     }
 }
 
-// The number that at least one digit means in a base.
+// The number that digits mean in a base; there has to be one.
 fn numeral(base: u64, digits: &[u8]) -> Option<u64>
     requires low { 2 ≤ base }
     requires high { base ≤ 16 }

@@ -9,7 +9,7 @@ abbrev pub is_comment : List ℕ → Bool
 is_comment [] = false
 is_comment (first ∷ rest) = first == 35
 
--- the path of the first entry of a list, and the rest: after a quoted path one byte is skipped, mostly the separator. What is not quoted right is a line, and a comment has the empty path
+-- the path of the first entry of a list, and the rest. After a quoted path one byte is skipped, mostly the separator. What is not quoted right is a line, and a comment, which begins with #, has the empty path
 abbrev pub first_path : ℕ → List ℕ → List ℕ × List ℕ
 first_path separator list = elim (option_and_then unquoted (after_mark list)) [
   | Some found ↦ (found.0, drop 1 found.1)
@@ -20,7 +20,7 @@ first_path separator list = elim (option_and_then unquoted (after_mark list)) [
 abbrev pub named : List ℕ → List (List ℕ)
 named path = if length path == 0 then [] else before_nul path ∷ []
 
--- the paths that so many entries name
+-- the paths of this many entries, at most
 abbrev pub first_paths : ℕ → ℕ → List ℕ → List (List ℕ)
 first_paths separator zero list = []
 first_paths separator (suc n) list = let first = first_path separator list in named first.0 ++ first_paths separator n first.1

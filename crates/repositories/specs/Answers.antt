@@ -27,7 +27,7 @@ abbrev pub IsAnswer : {X Y : Type 0} → (X → Y) → Result X IoError → Resu
 IsAnswer view (Ok x) answer = answer ≡ Ok (view x)
 IsAnswer view (Err error) answer = error_kind error ≢ OutOfMemory → answer ≡ Err (error_kind error)
 
--- the same of the answer among these, if they are known
+-- what a call returned is this answer, if the answers are known, unless memory ran out
 abbrev pub Answered : {X Y : Type 0} → (X → Y) → Result X IoError → (Answers → Result Y ErrorKind) → Option Answers → Type 0
 Answered view result answer = IfKnown (λ at. IsAnswer view result (answer at))
 
@@ -41,7 +41,7 @@ abbrev pub IsFound : {X Y : Type 0} → (X → Y) → Result X Error → Option 
 IsFound view (Ok x) found = found ≡ Some (view x)
 IsFound view (Err error) found = is_memory error ≡ false → found ≡ None
 
--- the same of what is found by these answers, if they are known
+-- what a function returned is what is found by the answers, if they are known. It is an error only where nothing can be said, since a call failed or a file says nothing that can be used, or where memory ran out
 abbrev pub Finds : {X Y : Type 0} → (X → Y) → Result X Error → (Answers → Option Y) → Option Answers → Type 0
 Finds view result found = IfKnown (λ at. IsFound view result (found at))
 

@@ -17,7 +17,7 @@ abbrev pub has_head_file : List ℕ → Answers → Option Bool
 has_head_file path at = is_file path at >>= λ is.
     if is then (if_there (at.bytes path) >>= λ text. elim text [ None ↦ Some false | Some text ↦ Some (is_head text) ]) else Some false
 
--- whether a directory has a HEAD: a link to a reference, which need not be there, or such a file
+-- whether a directory has a HEAD: a link to a reference, which need not be there, or a file that is one
 abbrev pub has_head : List ℕ → Answers → Option Bool
 has_head directory at = let path = path_join directory (codes "HEAD") in elim (at.link path) [
   | Ok reference ↦ Some (starts_with nat_eq reference (codes "refs/"))
@@ -28,7 +28,7 @@ has_head directory at = let path = path_join directory (codes "HEAD") in elim (a
 abbrev pub is_line_end : ℕ → Bool
 is_line_end byte = byte == 10 || byte == 13
 
--- a text without those at its end
+-- a text without the line feeds and carriage returns at its end
 abbrev pub without_line_ends : List ℕ → List ℕ
 without_line_ends text = take (length text - suffix_len is_line_end text) text
 
@@ -41,7 +41,7 @@ abbrev pub named_by : List ℕ → Answers → Option (List ℕ)
 named_by path at = if_there (at.text path) >>= λ text. option_and_then after_gitdir text >>= λ name.
     Some (path_join (unwrap_or (path_parent path) []) (without_line_ends name))
 
--- the directory that the file commondir of a directory names, or else the directory itself. An empty file is an error
+-- the directory that the file commondir of a directory names, or the directory itself if there is no such file. An empty file is an error
 abbrev pub common_of : List ℕ → Answers → Option (List ℕ)
 common_of directory at = if_there (at.text (path_join directory (codes "commondir"))) >>= λ text. elim text [
   | None ↦ Some directory
@@ -52,11 +52,11 @@ common_of directory at = if_there (at.text (path_join directory (codes "commondi
 abbrev pub common_at : Environment → List ℕ → Answers → Option (List ℕ)
 common_at given directory at = elim given.common_dir [ Some common ↦ Some (string_bytes common) | None ↦ common_of directory at ]
 
--- whether there are objects: those of the environment, or else those of a directory
+-- whether the object directory of the environment is there, or else that of a directory
 abbrev pub has_objects : Environment → List ℕ → Answers → Option Bool
 has_objects given directory at = elim given.object_directory [ Some objects ↦ is_directory (string_bytes objects) at | None ↦ is_directory (path_join directory (codes "objects")) at ]
 
--- whether there are objects, and references in a directory
+-- whether an object directory is there, and references in a directory
 abbrev pub has_both : Environment → List ℕ → Answers → Option Bool
 has_both given directory at = has_objects given directory at >>= λ has. if has then is_directory (path_join directory (codes "refs")) at else Some false
 
@@ -69,7 +69,7 @@ repository_at given directory at = has_head directory at >>= λ has.
 abbrev pub directory_at : List ℕ → Answers → Option (List ℕ)
 directory_at path at = is_file path at >>= λ is. if is then named_by path at else Some path
 
--- the repository that has to be there
+-- the repository that has to be there, or that a gitfile has to name
 abbrev pub required : Environment → List ℕ → Answers → Option (List ℕ)
 required given path at = directory_at path at >>= λ directory. repository_at given directory at >>= λ found. found
 
@@ -83,14 +83,14 @@ pub record Repository : Type 0 where
   pub directory : List ℕ
   pub top : List ℕ
 
--- the repository of a directory: as .git, or else as a bare repository, whose top is the current directory
+-- the repository of a directory, as .git, or else as a bare one, whose top is the current directory
 unfoldable pub repository_in : Environment → List ℕ → Answers → Option (Option Repository)
 repository_in given directory at = repository_of_worktree given directory at >>= λ found. elim found [
   | Some found ↦ Some (Some (record { directory = found; top = directory }))
   | None ↦ repository_at given directory at >>= λ found. Some (option_map (λ found. record { directory = found; top = [] }) found)
 ]
 
--- what was found, or what is found next if it was nothing
+-- what is found first, or what is found next if that is nothing
 abbrev pub or_next : {T : Type 0} → Option (Option T) → Option (Option T) → Option (Option T)
 or_next (Some None) next = next
 or_next found next = found
@@ -105,7 +105,7 @@ first_above given (suc n) directory at = or_next (repository_in given directory 
 abbrev pub without_top : Option (Option Repository) → Option (Option Repository)
 without_top found = found >>= λ found. Some (option_map (λ found. record { directory = found.directory; top = [] }) found)
 
--- the repository of the current directory, or of the first above it that has one. A path has at most 4096 bytes, two for each directory
+-- the repository of the current directory, which is then its top, or of the first directory above it that has one. A path has at most 4096 bytes, two for each directory
 abbrev pub find_from : Environment → List ℕ → Answers → Option (Option Repository)
 find_from given here at = or_next (without_top (repository_in given here at))
     (elim (path_parent here) [ None ↦ Some None | Some above ↦ first_above given 2048 above at ])
@@ -127,11 +127,11 @@ look_for given here at = elim given.dir [
   | None ↦ elim here [ Some here ↦ find_from given here at | None ↦ find_above given 1365 (codes ".") at ]
 ]
 
--- with the common directory of the environment, if it names one: relative to the top
+-- a repository with the common directory of the environment, if it names one: relative to the top
 abbrev pub with_common : Environment → Repository → Repository
 with_common given found = elim given.common_dir [ Some common ↦ record { directory = path_join found.top (string_bytes common); top = found.top } | None ↦ found ]
 
--- the repository
+-- the repository that Git finds by the environment and from the current directory, if there is one
 unfoldable pub find : Environment → Option (List ℕ) → Answers → Option (Option Repository)
 find given here at = look_for given here at >>= λ found. Some (option_map (with_common given) found)
 
@@ -146,7 +146,7 @@ ConfigSays directory kind at = let answer = at.bytes (path_join directory (codes
 abbrev pub HasKind : List ℕ → Kind → Answers → Type 0
 HasKind directory kind at = ConfigSays directory (Some kind) at ⊎ (ConfigSays directory None at × (kind ≡ Sha1))
 
--- the kind of an object directory without a repository, by the config beside it; if it is a link, beside the directory, or else beside the link
+-- the kind of the ids of an object directory, by the config beside it: if it is a link, beside the directory, or else beside the link
 abbrev pub HasKindBeside : List ℕ → Kind → Answers → Type 0
 HasKindBeside objects kind at =
     let above = path_join objects (codes "..") in

@@ -21,7 +21,7 @@ pub data Fault : Type 0 where
   UnknownExtension : List ℕ → Fault
   OnlyInVersion1 : List ℕ → Fault
 
--- the variables that are booleans
+-- the names of the variables about the format that are booleans
 abbrev pub booleans : List (List ℕ)
 booleans = codes "core.bare" ∷ codes "extensions.preciousobjects" ∷ codes "extensions.worktreeconfig" ∷ []
 
@@ -29,7 +29,7 @@ booleans = codes "core.bare" ∷ codes "extensions.preciousobjects" ∷ codes "e
 abbrev pub of_version_1 : List (List ℕ)
 of_version_1 = codes "noop-v1" ∷ codes "objectformat" ∷ codes "refstorage" ∷ codes "relativeworktrees" ∷ []
 
--- those that version 0 has too
+-- the extensions that version 0 has, too
 abbrev pub of_any_version : List (List ℕ)
 of_any_version = codes "noop" ∷ codes "partialclone" ∷ codes "preciousobjects" ∷ codes "worktreeconfig" ∷ []
 
@@ -53,15 +53,15 @@ kind_named text = if bytes_eq text (codes "sha1") then Some Sha1 else if bytes_e
 abbrev pub version_of : Variable → Option ℤ
 version_of variable = option_and_then number (value_named (codes "core.repositoryformatversion") variable)
 
--- the kind that it sets
+-- the kind that a variable sets
 abbrev pub kind_of : Variable → Option Kind
 kind_of variable = option_and_then kind_named (value_named (codes "extensions.objectformat") variable)
 
--- the extension that it sets, if only version 1 has that
+-- the extension that a variable sets, if only version 1 has it
 abbrev pub needs_of : Variable → Option (List ℕ)
 needs_of variable = option_and_then (known of_version_1) (extension variable.name.items)
 
--- the extension that it sets, if no version has that
+-- the extension that a variable sets, if no version has it
 abbrev pub unknown_of : Variable → Option (List ℕ)
 unknown_of variable = option_and_then (λ name. if is_some (known of_version_1 name) || is_some (known of_any_version name) then None else Some name) (extension variable.name.items)
 
@@ -72,7 +72,7 @@ fault_of variable =
     if bytes_eq variable.name.items (codes "extensions.objectformat") && not (is_some (kind_of variable)) then Some BadKind else
     if is_boolean (said variable).value then None else option_map BadBoolean (known booleans variable.name.items)
 
--- what the last variable of these sets that sets something, or else this
+-- what the last of these variables sets that sets something, or else what was set before
 abbrev pub last_of : {T : Type 0} → (Variable → Option T) → Option T → List Variable → Option T
 last_of pick before [] = before
 last_of pick before (variable ∷ rest) = last_of pick (option_or (pick variable) before) rest
@@ -82,12 +82,12 @@ abbrev pub first_fault : List Variable → Option Fault
 first_fault [] = None
 first_fault (variable ∷ rest) = option_or (fault_of variable) (first_fault rest)
 
--- this fault if there is one, or else this
+-- the fault if there is one, or else what the format says
 abbrev pub unless : Option Fault → Result Kind Fault → Result Kind Fault
 unless (Some fault) format = Err fault
 unless None format = format
 
--- the kind in a format: SHA-1 without a version and in version -1, which git takes for none; else the one that was set, or SHA-1, if versions 0 and 1 have all extensions
+-- the kind in a format: SHA-1 without a version and in version -1, which Git takes for none; in other versions the kind that was set, or SHA-1. Versions 0 and 1 must have all extensions, and no higher version is known
 abbrev pub kind_in_format : Option ℤ → Option Kind → Option (List ℕ) → Option (List ℕ) → Result Kind Fault
 kind_in_format version_set kind_set needs unknown =
     let version = unwrap_or version_set (negsuc 0) in
@@ -97,13 +97,13 @@ kind_in_format version_set kind_set needs unknown =
     if int_lt version (pos 1) then unless (option_map OnlyInVersion1 needs) (Ok kind) else
     if int_lt version (pos 2) then unless (option_map (λ name. UnknownExtension (utf8_lossy name)) unknown) (Ok kind) else Err (UnknownVersion version)
 
--- what a config says with these variables, up to a bad line if there is one: the first fault of a value, that of the line, or what the format says
+-- what a config with these variables says, up to a bad line if there is one: the first fault of a value, or else that of the line, or else what the format says
 abbrev pub kind_or_fault : List Variable → Option ℕ → Result Kind Fault
 kind_or_fault variables bad_line =
     unless (option_or (first_fault variables) (option_map BadLine bad_line))
     (kind_in_format (last_of version_of None variables) (last_of kind_of None variables) (last_of needs_of None variables) (last_of unknown_of None variables))
 
--- the fault that an error reports, but for want of memory
+-- the fault that an error reports, unless memory ran out
 abbrev pub reported : ConfigError → Option Fault
 reported (Line number) = Some (BadLine number)
 reported NoVersion = Some BadVersion
@@ -114,11 +114,11 @@ reported (NeedsVersion1 name) = Some (OnlyInVersion1 name.now)
 reported WrongKind = Some BadKind
 reported (Memory error) = None
 
--- this was returned, unless memory ran out
+-- a function returned this outcome, unless memory ran out
 abbrev pub Reports : Result Kind Fault → Result Kind ConfigError → Type 0
 Reports outcome (Ok kind) = outcome ≡ Ok kind
 Reports outcome (Err error) = IfSome (reported error) (λ fault. outcome ≡ Err fault)
 
--- a config says what was returned
+-- a function returned what the text of a config says, unless memory ran out
 abbrev pub Says : List ℕ → Result Kind ConfigError → Type 0
 Says text result = (variables : List Variable) × (bad_line : Option ℕ) × IsConfig text (map said variables) bad_line × Reports (kind_or_fault variables bad_line) result

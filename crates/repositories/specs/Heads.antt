@@ -13,6 +13,6 @@ begins_head text =
     if bytes_eq (take 4 text) (codes "ref:") then (let rest = drop 4 text in starts_with nat_eq (drop (prefix_len is_blank rest) rest) (codes "refs/"))
     else nat_le 40 (prefix_len is_ascii_hexdigit text)
 
--- whether the first 255 bytes of a file do
+-- whether a file is a HEAD, by its first 255 bytes: ref:, white space if there is any, and a reference; or 40 hex digits
 unfoldable pub is_head : List ℕ → Bool
 is_head text = begins_head (take 255 text)

@@ -23,25 +23,25 @@ abbrev pub answered : {T : Type 0} → Result T ErrorKind → Option T
 answered (Ok found) = Some found
 answered (Err kind) = None
 
--- the same, or none if there is nothing
+-- what a call answered, or none if there is nothing
 abbrev pub if_there : {T : Type 0} → Result T ErrorKind → Option (Option T)
 if_there (Ok found) = Some (Some found)
 if_there (Err kind) = if is_missing kind then Some None else None
 
--- what a path leads to; none also if it is too long, or has a NUL
+-- what a path leads to, or none if there is nothing, or if the path is too long or has a NUL
 abbrev pub if_found : Result Found ErrorKind → Option (Option Found)
 if_found (Err InvalidFilename) = Some None
 if_found answer = if_there answer
 
--- whether a path leads to what is such
+-- whether a path leads to something of this sort
 abbrev pub leads_to : (Found → Bool) → List ℕ → Answers → Option Bool
 leads_to is_such path at = if_found (at.look path) >>= λ found. elim found [ None ↦ Some false | Some found ↦ Some (is_such found) ]
 
--- whether it leads to a directory
+-- whether a path leads to a directory
 abbrev pub is_directory : List ℕ → Answers → Option Bool
 is_directory = leads_to (λ found. found.is_directory)
 
--- whether it leads to a file
+-- whether a path leads to a file
 abbrev pub is_file : List ℕ → Answers → Option Bool
 is_file = leads_to (λ found. found.is_file)
 
@@ -53,7 +53,7 @@ number_in found = record { dev = found.state.dev; ino = found.state.ino }
 abbrev pub number_of : List ℕ → Answers → Option FileNumber
 number_of path at = answered (at.look path) >>= λ found. Some (number_in found)
 
--- the path, and the number if it is wanted, of the directory that a look answered
+-- the directory that a look found, by its path, with its number if that is wanted
 abbrev pub if_directory : Bool → List ℕ → Result Found ErrorKind → Result (List ℕ × Option FileNumber) ErrorKind
 if_directory is_numbered path (Err kind) = Err kind
 if_directory is_numbered path (Ok found) =
@@ -65,6 +65,6 @@ if_real path at (Ok real) = if_directory false real (at.look real)
 if_real path at (Err InvalidFilename) = if_directory true path (at.look path)
 if_real path at (Err kind) = Err kind
 
--- the directory that a path leads to, by its absolute path without links
+-- the directory that a path leads to: by its absolute path without links; or, if that is not UTF-8, by the path itself, with its number
 abbrev pub real_directory : List ℕ → Answers → Result (List ℕ × Option FileNumber) ErrorKind
 real_directory path at = if_real path at (at.real path)

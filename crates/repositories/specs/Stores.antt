@@ -9,7 +9,7 @@ use Rattle.repositories.specs.declared.error.Cause.{Cause}
 use Rattle.repositories.specs.declared.error.Cause.TheVariants.{NoStoreButIn}
 
 infixr 10 ◌or_else◌
--- whether one test holds or the other does, which is only made if the first does not hold
+-- whether a test or another one holds; the other one is only made if the first does not hold
 abbrev pub ◌or_else◌ : Option Bool → Option Bool → Option Bool
 test or_else other = test >>= λ holds. if holds then Some true else other
 

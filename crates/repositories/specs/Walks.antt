@@ -47,7 +47,7 @@ state_at path at = if_there (at.look path) >>= λ found. Some (option_map (λ fo
 abbrev pub or_here : List ℕ → List ℕ
 or_here path = if length path == 0 then codes "." else path
 
--- a state is that of what a path leads to; or, if that is nothing, one in which names are missing
+-- a state is that of what a path leads to, or one in which names are missing if that is nothing
 abbrev pub IsStateOf : List ℕ → FileState → Answers → Type 0
 IsStateOf path state at = elim (state_at path at) [
   | Some (Some found) ↦ state ≡ found
@@ -62,13 +62,13 @@ text_at list at = state_at list at >>= λ state. elim state [
   | Some state ↦ if_there (at.bytes list) >>= λ text. Some (unwrap_or text [])
 ]
 
--- a walk, and the paths of a list so far, with one more path: it is relative to the directory of the list. An empty one is that directory, and one that is not UTF-8 is skipped
+-- a walk, and the paths of a list so far, with one more path, which is relative to the directory of the list. An empty path is that directory, and one that is not UTF-8 is skipped
 abbrev pub with_path : List ℕ → List ℕ → Walk × List (List ℕ) → Walk × List (List ℕ)
 with_path directory path found =
     if length path == 0 then found else
     if is_utf8 path then (found.0, found.1 ++ path_join directory path ∷ []) else (skip found.0, found.1)
 
--- the same with some paths
+-- a walk, and the paths of a list so far, with more paths of the list
 abbrev pub with_paths : List ℕ → List (List ℕ) → Walk × List (List ℕ) → Walk × List (List ℕ)
 with_paths directory [] found = found
 with_paths directory (path ∷ paths) found = with_paths directory paths (with_path directory path found)
@@ -93,7 +93,7 @@ abbrev pub each : (List ℕ → Walk → Answers → Option Walk) → List (List
 each visit [] walk at = Some walk
 each visit (path ∷ paths) walk at = visit path walk at >>= λ walk. each visit paths walk at
 
--- the walk with the directory that a path leads to, and its alternates: so many levels together
+-- the walk with the directory that a path leads to, and its alternates: this many levels in all
 unfoldable pub visit_below : ℕ → List ℕ → Walk → Answers → Option Walk
 visit_below zero path walk at = visit 0 path walk at >>= λ found. Some found.0
 visit_below (suc levels) path walk at = visit (suc levels) path walk at >>= λ found. each (visit_below levels) found.1 found.0 at
@@ -107,17 +107,17 @@ abbrev pub walk_from : List ℕ × Option FileNumber → List (List ℕ) → Wal
 walk_from real given walk at =
     visit_all 6 given (with_directory real walk) at >>= λ walk. list_at real.0 walk at >>= λ found. visit_all 6 found.1 found.0 at
 
--- some paths, the first of which becomes this one
+-- some paths with this one in the place of the first
 abbrev pub with_first : List ℕ → List (List ℕ) → List (List ℕ)
 with_first path [] = []
 with_first path (first ∷ rest) = path ∷ rest
 
--- the paths of an object directory and its alternates, and how many are skipped. The directory has the path that was given
+-- the paths of an object directory, as it was given, and of its alternates, and how many are skipped
 abbrev pub with_alternates : List ℕ → List (List ℕ) → Answers → Option (List (List ℕ) × ℕ)
 with_alternates objects given at = answered (real_directory objects at) >>= λ real.
     walk_from real given (record { paths = []; numbers = []; skipped = 0 }) at >>= λ walk. Some (with_first objects walk.paths, walk.skipped)
 
--- a walk of the code in these definitions
+-- a walk of the code
 abbrev pub walk_of : AWalk → Walk
 walk_of walk = record { paths = map string_bytes walk.found.paths.items; numbers = walk.numbers.items; skipped = length walk.found.skipped.items }
 

@@ -1,4 +1,4 @@
-//! Lists of alternates: other object directories, whose objects a repository borrows.
+//! Reads lists of alternates: other object directories, whose objects a repository borrows.
 
 ghost use Rattle.std.specs.Prelude.{◌≡◌, ◌==◌, ◌-◌, ◌<◌, ◌≤◌, ◌++◌, IfOk, IfSome, OnOk, drop, length, map, option_map, position};
 ghost use Rattle.std.specs.List.{after_first, before_first};
@@ -8,15 +8,15 @@ ghost use Rattle.repositories.specs.Quoting.{after_mark, quoted_byte, unescaped,
 
 use std::alloc::{AllocError, Allocator};
 
-/// The paths that a list of alternates names, in order, as Git takes them from it: the lines of
-/// `objects/info/alternates`, or what `$GIT_ALTERNATE_OBJECT_DIRECTORIES` has between colons.
+/// Returns the paths that a list of alternates names, in order, as Git reads them: the lines of
+/// `objects/info/alternates`, or what is between the colons of `$GIT_ALTERNATE_OBJECT_DIRECTORIES`.
 ///
-/// A NUL ends the list, and so does it a path. Empty paths and comments, which begin with `#`, are
-/// skipped. What begins with a quotation mark
-/// is unquoted (C's escapes, with bytes as three octal digits), up to the closing one, after which
-/// one byte is skipped, mostly the separator. If it is not quoted right, it is the path itself.
+/// The list ends at its first NUL. Empty paths and comments, which begin with `#`, are skipped. A
+/// path that begins with a quotation mark is unquoted (C's escapes, with bytes as three octal
+/// digits) up to the closing mark, after which one byte is skipped, mostly the separator. What is
+/// unquoted ends at its first NUL. A path that is not quoted right is taken as it is.
 ///
-/// A path that begins with a NUL is not skipped: it is then empty. To Git it is the directory of
+/// A quoted path that begins with a NUL is returned as an empty one. To Git it is the directory of
 /// the list in `objects/info/alternates`, and an error in `$GIT_ALTERNATE_OBJECT_DIRECTORIES`.
 ///
 /// ```
@@ -59,7 +59,7 @@ fn push_path<A: Allocator>(
     Ok(())
 }
 
-// The path of the first entry of a list, and the rest of the list. That of a comment is empty.
+// The path of the first entry of a list, which is empty for a comment, and the rest of the list.
 fn first_path<A: Allocator + Copy>(
     alloc: A,
     list: &[u8],
@@ -99,7 +99,7 @@ fn after_one(text: &[u8]) -> &[u8]
     }
 }
 
-// The rest of a text after a quotation mark, if it begins with one.
+// A text without the quotation mark at its front, if there is one.
 fn after_mark(text: &[u8]) -> Option<&[u8]>
     ensures { option_copied result ≡ after_mark text.now }
 {
@@ -109,8 +109,8 @@ fn after_mark(text: &[u8]) -> Option<&[u8]>
     }
 }
 
-// The bytes that a text after a quotation mark means, and what is after the closing one; or `None`
-// if it is not quoted right.
+// The bytes that a text after a quotation mark means, and the rest after the closing mark, or
+// `None` if the text is not quoted right.
 fn unquote<A: Allocator>(alloc: A, quoted: &[u8]) -> Result<Option<(Vec<u8, A>, &[u8])>, AllocError>
     ensures fewer { IfOk result (λ found.
         IfSome found (λ path. length path.1.now ≤ length quoted.now)) }
@@ -129,8 +129,8 @@ fn unquote<A: Allocator>(alloc: A, quoted: &[u8]) -> Result<Option<(Vec<u8, A>, 
     }
 }
 
-// The first byte that a quoted text means, and the rest of the text; or `None` if it ends there, or
-// is not quoted right.
+// The first byte that a quoted text means, and the rest of the text, or `None` if the quoted text
+// ends there or is not quoted right.
 fn next_byte(quoted: &[u8]) -> Option<(u8, &[u8])>
     ensures fewer { IfSome result (λ next. length next.1.now < length quoted.now) }
     ensures byte { option_map (λ next. (next.0, next.1.now)) result ≡ quoted_byte quoted.now }
@@ -179,7 +179,7 @@ fn unescaped(letter: u8) -> Option<u8>
     }
 }
 
-// What is before the first separator, and after it.
+// The text before the first separator, and the text after it.
 fn split_line(text: &[u8], separator: u8) -> (&[u8], &[u8])
     ensures line { result.0.now ≡ before_first (λ byte. byte == separator) text.now }
     ensures rest { result.1.now ≡ after_first (λ byte. byte == separator) text.now }
@@ -191,7 +191,7 @@ fn split_line(text: &[u8], separator: u8) -> (&[u8], &[u8])
     }
 }
 
-// Where a byte is first.
+// The position of the first byte of this value.
 fn position_of(text: &[u8], wanted: u8) -> Option<usize>
     ensures { result ≡ position (λ byte. byte == wanted) text.now }
 {

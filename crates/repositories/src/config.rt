@@ -1,4 +1,4 @@
-//! What a repository's config (git-config) says of its format and its ids.
+//! Reads what a repository's config (git-config) says of its format and its ids.
 
 ghost use Rattle.std.specs.Prelude.{◌≡◌, ◌⊎◌, IsErrAnd, IsSome, MatchOption, None, bytes_eq, find, option_map};
 ghost use Rattle.repositories.specs.Formats.{Reports, Says, extension, fault_of, kind_in_format, kind_of, kind_or_fault, needs_of, reported, unknown_of, value_named, version_of};
@@ -12,7 +12,7 @@ use thiserror::Error as ThisError;
 // refs are stored, and how worktrees are linked.
 const OF_VERSION_1: [&str; 4] = ["noop-v1", "objectformat", "refstorage", "relativeworktrees"];
 
-// Those that version 0 has, too.
+// The extensions that version 0 has, too.
 const OF_ANY_VERSION: [&str; 4] = ["noop", "partialclone", "preciousobjects", "worktreeconfig"];
 
 // The variables about the format that are booleans.
@@ -22,28 +22,28 @@ const BOOLEANS: [&str; 3] = [
     "extensions.worktreeconfig",
 ];
 
-/// Why a config says no kind.
+/// Why a config does not say a kind.
 #[derive(Debug, Drop, ThisError)]
 pub enum ConfigError {
-    /// A line is no section and no variable. Its number, from 1.
+    /// The line of this number, counted from 1, is neither a section nor a variable.
     #[error("bad config line {0}")]
     Line(usize),
     /// The version of the repository's format is not a number of 32 bits.
     #[error("core.repositoryformatversion is not a number")]
     NoVersion,
-    /// This variable is to be a boolean, and is none.
+    /// This variable has to be a boolean, and is not.
     #[error("{0} is neither true nor false")]
     NoBoolean(&'static str),
-    /// The version of the repository's format is above 1.
+    /// This version of the repository's format is above 1.
     #[error("expected git repo version <= 1, found {0}")]
     Version(i64),
-    /// The repository's format has an extension that is not known.
+    /// The repository's format has this extension, which is not known.
     #[error("unknown repository extension found: {0}")]
     Extension(String),
-    /// The version is 0, and this extension needs version 1.
+    /// The version of the repository's format is 0, and this extension needs version 1.
     #[error("repo version is 0, but v1-only extension found: {0}")]
     NeedsVersion1(&'static str),
-    /// `extensions.objectformat` names no kind.
+    /// `extensions.objectformat` is neither `sha1` nor `sha256`.
     #[error("extensions.objectformat is neither sha1 nor sha256")]
     Kind,
     /// There is not enough memory.
@@ -51,12 +51,13 @@ pub enum ConfigError {
     Memory(#[from(alloc)] AllocError),
 }
 
-/// The kind of a repository's ids by the text of its config: the last value of
-/// `extensions.objectformat`, or SHA-1 if there is none. As for Git, a text without
+/// Reads the kind of a repository's ids from the text of its config. It is the last value of
+/// `extensions.objectformat`, or SHA-1 if there is none. As in Git, a text without
 /// `core.repositoryformatversion` has no extensions, and files that it includes are not read.
 ///
-/// An error is the first of its lines that is bad or of its values that is wrong, or else what is
-/// wrong with the format that all its variables say.
+/// The error is `Memory` if memory runs out. Otherwise it is the first value that is wrong before
+/// the first bad line, or else that line, or else what is wrong with the format that the variables
+/// say together.
 ///
 /// ```
 /// let text = b"[core]\n\trepositoryformatversion = 1\n[extensions]\n\tobjectformat = sha256\n";
@@ -71,7 +72,7 @@ pub fn kind_in_config(alloc: Global, text: &[u8]) -> Result<Kind, ConfigError>
     }
 }
 
-// The kind of a repository's ids by its config, or what is wrong first.
+// The kind of a repository's ids by its config, or what is wrong first with the config.
 #[tactic(auto, using(crate::proofs::Settings::view_or, crate::proofs::Settings::first_is))]
 fn kind_or_fault(alloc: Global, config: &Config) -> Result<Kind, ConfigError>
     ensures { Reports (kind_or_fault config.now.variables.items config.now.bad_line) result }
@@ -94,7 +95,7 @@ fn kind_or_fault(alloc: Global, config: &Config) -> Result<Kind, ConfigError>
     }
 }
 
-// The kind in this version of the format, if it has the extensions.
+// The kind of the ids in this version of the format, if the version has the extensions.
 fn kind_in_format(
     alloc: Global,
     version: Option<i64>,
@@ -157,7 +158,7 @@ fn kind_of(variable: &Variable) -> Option<Kind>
     }
 }
 
-// The value that a variable of this name has.
+// The value of a variable, if it has this name.
 fn value_named<'a>(variable: &'a Variable, name: &str) -> Option<&'a [u8]>
     ensures { option_map (λ text. text.now) result ≡ value_named name.now variable.now }
 {
@@ -168,14 +169,14 @@ fn value_named<'a>(variable: &'a Variable, name: &str) -> Option<&'a [u8]>
     }
 }
 
-// The extension that a variable is and that only version 1 has.
+// The extension that a variable sets, if only version 1 has it.
 fn needs_of(variable: &Variable) -> Option<&'static str>
     ensures { option_map (λ name. name.now) result ≡ needs_of variable.now }
 {
     known(&OF_VERSION_1, extension(&variable.name)?)
 }
 
-// The extension that a variable is and that no version has.
+// The extension that a variable sets, if no version has it.
 fn unknown_of(variable: &Variable) -> Option<&[u8]>
     ensures { option_map (λ name. name.now) result ≡ unknown_of variable.now }
 {
@@ -187,14 +188,14 @@ fn unknown_of(variable: &Variable) -> Option<&[u8]>
     }
 }
 
-// The name of an extension, after its section.
+// The name of the extension that a variable sets, which follows the section.
 fn extension(name: &[u8]) -> Option<&[u8]>
     ensures { option_map (λ extension. extension.now) result ≡ extension name.now }
 {
     name.strip_prefix(b"extensions.")
 }
 
-// The name among some that this one is, if it is one of them.
+// The name among these that is the same as this one, if there is one.
 fn known(names: &[&'static str], name: &[u8]) -> Option<&'static str>
     ensures { result ≡ find (λ known. bytes_eq name.now known.now) names.now }
 {

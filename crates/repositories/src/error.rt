@@ -10,7 +10,7 @@ use std::alloc::{AllocError, AllocFailed, Global};
 use std::io;
 use thiserror::Error as ThisError;
 
-/// Why a repository, its object directory or an alternate is not found or read.
+/// Why a repository, its object directory or an alternate cannot be found or read.
 ///
 /// ```
 /// if let Err(error) = find_objects(rt) {
@@ -19,7 +19,8 @@ use thiserror::Error as ThisError;
 /// ```
 #[derive(Debug, Drop, ThisError)]
 pub enum Error {
-    /// Something is missing, wrong or cannot be read. A result with this pointer is small.
+    /// Something is missing or wrong, or cannot be read. The cause is boxed, so that a `Result`
+    /// with this error is small.
     #[error("{0}")]
     Cause(Box<Cause>),
     /// There is not enough memory.
@@ -50,39 +51,39 @@ pub enum Cause {
     /// A directory or file cannot be read.
     #[error("{path}: {error}")]
     File {
-        /// Its path.
+        /// The path of the directory or file.
         path: String,
-        /// Why.
+        /// The error of the call that failed.
         error: io::Error,
     },
-    /// A file, variable or alternate that cannot be used.
+    /// A file, a variable of the environment or an alternate cannot be used.
     #[error("{path}: {why}")]
     Text {
-        /// Its path.
+        /// The path of the file or alternate, or the name of the variable.
         path: String,
         /// What is wrong.
         why: &'static str,
     },
-    /// A repository's config says no kind of ids that is known.
+    /// A repository's config does not say a kind of ids that is known.
     #[error("{path}: {error}")]
     Config {
-        /// Its path.
+        /// The path of the config.
         path: String,
-        /// Why.
+        /// What is wrong in the config.
         error: ConfigError,
     },
-    /// A directory is no object directory.
+    /// A directory is not an object directory.
     #[error("{path}: no object store")]
     NoStore {
-        /// Its path.
+        /// The path of the directory.
         path: String,
     },
-    /// A directory is no object directory, but has one.
+    /// A directory is not an object directory, but has one.
     #[error("{path}: no object store: try {objects}")]
     NoStoreButIn {
-        /// Its path.
+        /// The path of the directory.
         path: String,
-        /// The path of the object directory in it.
+        /// The path of the object directory that it has.
         objects: String,
     },
     /// Neither the current directory nor one above it has a repository.
@@ -91,7 +92,8 @@ pub enum Cause {
 }
 
 impl Error {
-    /// The error that a directory or file cannot be read, or `Memory` if that is why.
+    /// Makes the error for a directory or file that cannot be read. It is `Memory` if memory ran
+    /// out for the call or runs out for the error, and otherwise a [`Cause::File`].
     pub fn file(alloc: Global, path: &str, error: io::Error) -> Error
         ensures { error_kind error ≡ ErrorKind.OutOfMemory → is_memory result ≡ true }
     {
@@ -103,7 +105,8 @@ impl Error {
         }
     }
 
-    /// The error that a file or the name of one does not say what it is to say.
+    /// Makes the error for a file, a variable or an alternate that cannot be used. It is a
+    /// [`Cause::Text`], or `Memory` if memory runs out.
     pub fn text(alloc: Global, path: &str, why: &'static str) -> Error {
         match String::from_str(alloc, path) {
             Ok(path) => Error::of(alloc, Cause::Text { path, why }),
@@ -111,7 +114,7 @@ impl Error {
         }
     }
 
-    // A config says no kind that is known.
+    // Makes the error for a config that does not say a kind.
     pub(crate) fn config(alloc: Global, path: &str, error: ConfigError) -> Error {
         match (String::from_str(alloc, path), error) {
             (_, ConfigError::Memory(error)) | (Err(error), _) => Error::Memory(error),
@@ -119,13 +122,13 @@ impl Error {
         }
     }
 
-    // The error of a cause.
+    // Makes the error of a cause.
     pub(crate) fn of(alloc: Global, cause: Cause) -> Error {
         Box::new(alloc, cause).map_or(Error::Memory(AllocError), |cause| Error::Cause(cause))
     }
 
-    /// The system's number of the error by which a directory or file cannot be read, if there is
-    /// one.
+    /// The system's number of the error by which a directory or file cannot be read, or `None` for
+    /// any other error.
     pub fn raw_os_error(&self) -> Option<i32> {
         let Error::Cause(cause) = self else {
             return None;

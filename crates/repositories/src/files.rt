@@ -21,7 +21,7 @@ use std::path::Path;
 use std::rt::Files;
 use std::str;
 
-/// A path below a directory, or the path itself if it is absolute.
+/// Joins a path to that of a directory. An absolute path is returned as it is.
 ///
 /// ```
 /// let packs = join(rt, ".git/objects", "pack")?;
@@ -32,7 +32,7 @@ pub fn join(rt: &impl AllocGlobal, directory: &str, path: &str) -> Result<String
     Ok(Path::new(directory).join(rt.alloc(), path)?.into_string())
 }
 
-// Adds a path that the list of a directory names, if it is UTF-8, and returns whether it is.
+// Adds a path that the list of a directory names if it is UTF-8, and returns whether it is.
 pub(crate) fn push_path(
     rt: &impl AllocGlobal,
     directory: &str,
@@ -51,8 +51,8 @@ pub(crate) fn push_path(
     Ok(true)
 }
 
-/// What a call returns that is made again if a signal interrupts it. The error is any other one of
-/// the call.
+/// Makes a call, again as long as a signal interrupts it, and returns its result. The error is any
+/// other one of the call.
 ///
 /// ```
 /// let directory = retried(|| rt.open_dir(".git/objects/pack/"))?;
@@ -70,7 +70,7 @@ pub fn retried<T: Drop, F: FnMut() -> io::Result<T>>(mut call: F) -> io::Result<
     Err(ErrorKind::TimedOut.into())
 }
 
-/// What a path leads to, by a call that is made again if a signal interrupts it.
+/// Reads what a path leads to, by a call that is made again if a signal interrupts it.
 ///
 /// ```
 /// let size = metadata(rt, ".git/HEAD")?.len();
@@ -88,7 +88,8 @@ pub(crate) fn is_missing(error: &io::Error) -> bool
     matches!(error.kind(), ErrorKind::NotFound | ErrorKind::NotADirectory)
 }
 
-// What was read of a file, or `None` if there is no such file.
+// What was read of a file, or `None` if there is no such file. Any other error of the read is
+// returned.
 pub(crate) fn if_there<T: Drop>(
     rt: &impl AllocGlobal,
     path: &str,
@@ -111,7 +112,7 @@ pub(crate) fn if_there<T: Drop>(
 // A directory that is there.
 #[derive(Drop)]
 pub(crate) struct RealDirectory {
-    // Its absolute path, without links; or the path as it was given, if that is not UTF-8.
+    // Its absolute path without links, or, if that is not UTF-8, the path as it was given.
     pub(crate) path: String,
     // Its number, if its absolute path is not UTF-8.
     pub(crate) number: Option<FileNumber>,
@@ -137,7 +138,7 @@ pub(crate) fn real_directory<R: Directories>(rt: &R, path: &str) -> io::Result<R
     }
 }
 
-// The directory that has this path, with its number if that is wanted.
+// The directory at this path, with its number if that is wanted.
 fn if_directory<R: Directories>(
     rt: &R,
     path: String,
@@ -155,7 +156,7 @@ fn if_directory<R: Directories>(
     Ok(RealDirectory { path, number })
 }
 
-// The same, where a directory that is not there is an error.
+// The directory that a path leads to, which has to be there. The error has the path.
 pub(crate) fn existing_directory<R: Directories>(rt: &R, path: &str) -> Result<RealDirectory, Error>
     ensures { Finds directory_of result (λ at. answered (real_directory path.now at))
         (R.answers rt.now) }
@@ -166,7 +167,7 @@ pub(crate) fn existing_directory<R: Directories>(rt: &R, path: &str) -> Result<R
     }
 }
 
-// The path of the directory in which a path is, if it has one.
+// The path of the directory above a path, if there is one.
 pub(crate) fn parent(path: &str) -> Option<&str>
     ensures { option_copied result ≡ path_parent path.now }
 {
@@ -183,7 +184,7 @@ fn parent_or_self(path: &str) -> &str
     }
 }
 
-// What a path leads to, or `None` if there is nothing, or the path is too long for it.
+// What a path leads to, or `None` if there is nothing, or if the path is too long or has a NUL.
 fn look_at<R: Directories>(rt: &R, path: &str) -> Result<Option<Found>, Error>
     ensures { Finds (λ found. found) result (λ at. if_found (at.look path.now)) (R.answers rt.now) }
 {
@@ -213,7 +214,7 @@ pub(crate) fn is_file<R: Directories>(rt: &R, path: &str) -> Result<bool, Error>
     }
 }
 
-// Whether a directory has one of this name.
+// Whether a directory has a directory of this name.
 pub(crate) fn has_directory<R: Directories>(
     rt: &R,
     directory: &str,
@@ -225,7 +226,7 @@ pub(crate) fn has_directory<R: Directories>(
     is_directory(rt, &join(rt, directory, name)?)
 }
 
-// The kind of a repository's ids by its config in a directory. SHA-1 if there is no config.
+// The kind of a repository's ids by the config in a directory. It is SHA-1 if there is no config.
 pub(crate) fn kind_by_config<R: Directories>(rt: &R, directory: &str) -> Result<Kind, Error>
     ensures { IfOk result (λ kind. IfKnown (HasKind directory.now kind) (R.answers rt.now)) }
 {
@@ -235,8 +236,8 @@ pub(crate) fn kind_by_config<R: Directories>(rt: &R, directory: &str) -> Result<
     }
 }
 
-// The kind of the ids of an object directory by the config beside it. SHA-1 if there is no config.
-// If the directory is a link, the config is beside the directory, or else beside the link.
+// The kind of the ids of an object directory by the config beside it. It is SHA-1 if there is no
+// config. If the directory is a link, the config is beside the directory, or else beside the link.
 pub(crate) fn kind_beside<R: Directories>(rt: &R, objects: &str) -> Result<Kind, Error>
     ensures { IfOk result (λ kind. IfKnown (HasKindBeside objects.now kind) (R.answers rt.now)) }
 {

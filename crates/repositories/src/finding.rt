@@ -1,4 +1,4 @@
-//! Object directories: the one of the repository that a program runs in, and others by their paths.
+//! Finds object directories: that of the repository that a program runs in, and others by path.
 
 ghost use Rattle.std.specs.Prelude.{◌≡◌, ◌++◌, ◌∷◌, suc, IfOk, OnOk, Some, [], map, option_copied, option_map, string_bytes, true};
 ghost use Rattle.repositories.specs.Answers.{Finds, IfKnown};
@@ -29,22 +29,24 @@ pub(crate) const ALTERNATES: &str = "GIT_ALTERNATE_OBJECT_DIRECTORIES";
 pub struct ObjectDirectory {
     /// The path of the directory.
     pub path: String,
-    /// The kind of all ids: by the config, or SHA-1 without one. A caller may set another.
+    /// The kind of all ids: the one that the config says, or SHA-1 if there is no config. A caller
+    /// may set another.
     pub kind: Kind,
-    /// The object directories that the environment adds to its alternates. An empty path is none:
-    /// it began with a NUL, and is skipped.
+    /// The paths of the object directories that the environment adds to its alternates. A path that
+    /// begins with a NUL there is empty here, and is skipped.
     pub alternates: Vec<String>,
 }
 
 impl ObjectDirectory {
-    /// The object directory at a path, with the kind that the config beside it says. It is SHA-1 if
-    /// there is no config. The environment adds no alternates.
+    /// Opens the object directory at a path. The kind is the one that the config beside it says, or
+    /// SHA-1 if there is no config. The environment adds no alternates.
     ///
     /// A directory is an object directory if it has the directory `pack`, the file
     /// `info/alternates` or a fan-out directory.
     ///
-    /// The errors are [`Error::Memory`] and the causes [`Cause::NoStore`], [`Cause::NoStoreButIn`],
-    /// [`Cause::File`] and [`Cause::Config`].
+    /// The error is [`Error::Memory`], or the cause [`Cause::NoStore`] or [`Cause::NoStoreButIn`]
+    /// if the directory is not an object directory, [`Cause::File`] if something cannot be read, or
+    /// [`Cause::Config`].
     ///
     /// ```
     /// let directory = ObjectDirectory::at(rt, ".git/objects")?;
@@ -77,14 +79,14 @@ impl ObjectDirectory {
 ///
 /// The repository is that of `$GIT_DIR`, or else of the current directory or the first above it
 /// that has one: as `.git`, which is a directory or a gitfile, or as a bare repository. The
-/// worktrees of a repository share its objects; `$GIT_COMMON_DIR` is taken in place of the
-/// directory that they share. `$GIT_OBJECT_DIRECTORY` is taken in place of the repository's own
-/// object directory, and the directories of `$GIT_ALTERNATE_OBJECT_DIRECTORIES` are alternates.
-/// Relative ones are taken from the directory that has `.git`, if the repository is found there.
-/// One of the variables that name a directory is an error if it is empty.
+/// worktrees of a repository share its objects; `$GIT_COMMON_DIR` is used instead of the directory
+/// that they share. `$GIT_OBJECT_DIRECTORY` is used instead of the repository's own object
+/// directory, and the directories of `$GIT_ALTERNATE_OBJECT_DIRECTORIES` are alternates. Relative
+/// paths lead from the directory that has `.git`, if the repository is found there.
 ///
-/// The errors are [`Error::Memory`] and the causes [`Cause::NoRepository`], [`Cause::Text`],
-/// [`Cause::File`] and [`Cause::Config`].
+/// The error is [`Error::Memory`], or the cause [`Cause::NoRepository`] if there is no repository,
+/// [`Cause::Text`] if a variable or a file cannot be used, such as an empty path of a directory,
+/// [`Cause::File`] if something cannot be read, or [`Cause::Config`].
 pub fn find_objects<R: Directories + Env>(rt: &R) -> Result<ObjectDirectory, Error> {
     let given = Environment::read(rt)?;
     match given.dir {
@@ -102,12 +104,12 @@ fn current_dir(rt: &(impl Env + AllocGlobal)) -> Result<Option<String>, Error> {
     }
 }
 
-/// Finds the same object directory by what the environment says, and from the current directory,
-/// whose path is `here`, or `None` if it is not UTF-8. With [`Environment::dir`] it is not looked
-/// at.
+/// Finds the same object directory as [`find_objects`], by what the environment says, and from the
+/// current directory, whose path is `here`, or `None` if it is not UTF-8. If [`Environment::dir`]
+/// is set, `here` is not used.
 ///
-/// What is found is what the directories and files say by Git's rules: a call that fails is an
-/// error, and never taken for a file that is not there. The errors are those of [`find_objects`].
+/// What is found is what the directories and files say by Git's rules. A call that fails is an
+/// error, and never taken for a file that is not there. The errors are those of `find_objects`.
 ///
 /// ```
 /// let directory = find_objects_in(rt, &Environment::read(rt)?, Some("/home/me/project"))?;
@@ -152,7 +154,7 @@ fn objects_of<R: Directories>(
     })
 }
 
-// The object directory that the environment names, where there is no repository.
+// The object directory that the environment names, if there is no repository.
 fn objects_given<R: Directories>(rt: &R, given: &Environment) -> Result<ObjectDirectory, Error>
     ensures path { IfOk result (λ found. Some (string_bytes found.path)
         ≡ option_map string_bytes given.now.object_directory) }
@@ -172,7 +174,7 @@ fn objects_given<R: Directories>(rt: &R, given: &Environment) -> Result<ObjectDi
     })
 }
 
-// The directories that `$GIT_ALTERNATE_OBJECT_DIRECTORIES` names, relative to the top.
+// The directories that `$GIT_ALTERNATE_OBJECT_DIRECTORIES` names, by paths from the top.
 fn alternates(rt: &impl AllocGlobal, given: &Environment, top: &str) -> Result<Vec<String>, Error>
     ensures { IfOk result (λ alternates. map string_bytes alternates.items
         ≡ alternates_of given.now top.now) }
@@ -186,7 +188,7 @@ fn alternates(rt: &impl AllocGlobal, given: &Environment, top: &str) -> Result<V
     }
 }
 
-// The directories at these paths.
+// The directories at these paths from the top.
 fn alternates_in(rt: &impl AllocGlobal, top: &str, named: &[Vec<u8>]) -> Result<Vec<String>, Error>
     ensures { IfOk result (λ alternates. map string_bytes alternates.items
         ≡ map (alternate_in top.now) (map (λ path. path.items) named.now)) }
@@ -198,7 +200,7 @@ fn alternates_in(rt: &impl AllocGlobal, top: &str, named: &[Vec<u8>]) -> Result<
     Ok(alternates)
 }
 
-// Adds the directory at a path, or an empty path if this one is empty.
+// Adds the directory at a path from the top, or an empty path if this one is empty.
 fn push_alternate(
     rt: &impl AllocGlobal,
     top: &str,
@@ -230,7 +232,7 @@ fn is_store<R: Directories>(rt: &R, path: &str) -> Result<bool, Error>
     )
 }
 
-// Whether a directory has the fan-out directory of a byte, or of one below.
+// Whether a directory has the fan-out directory of this byte, or of one below.
 #[tactic(auto, unfolding(crate::specs::Stores::has_fan_out))]
 fn has_fan_out<R: Directories>(rt: &R, path: &str, byte: u8) -> Result<bool, Error>
     ensures { Finds (λ has. has) result (has_fan_out (suc byte) path.now) (R.answers rt.now) }

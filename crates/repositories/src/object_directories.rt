@@ -20,28 +20,29 @@ use crate::state::FileState;
 use std::alloc::AllocError;
 use std::io;
 
-// How many levels of alternates are read, as by Git: those of the directory itself, and five more,
-// each named by the one before.
+// This many levels of alternates are read, as by Git: those of the directory itself, and five more,
+// each named by the level before.
 const LEVELS: u8 = 6;
 
 /// An object directory and its alternates, each once.
 #[derive(Drop)]
 pub struct ObjectDirectories {
-    /// The path of the directory as it was given, and the absolute paths of the alternates. One
-    /// whose absolute path is not UTF-8 has the path by which it was found.
+    /// The path of the directory as it was given, and the absolute paths of the alternates. An
+    /// alternate whose absolute path is not UTF-8 has the path by which it was found.
     pub paths: Vec<String>,
-    /// The states of their lists of alternates before they were read, and of the paths of
+    /// The states that the lists of alternates had before they were read, and those of the
     /// alternates that cannot be used, in the order in which they were looked at.
     pub states: Vec<FileState>,
-    /// Why other alternates are skipped: they are missing, are no directories, cannot be read or
-    /// are nested too deep. Each has its path, or the variable if its path there begins with a NUL.
+    /// Why other alternates are skipped: each is missing, not a directory, cannot be read or is
+    /// nested too deep. The error has the path of the alternate, or the name of the variable if the
+    /// path begins with a NUL there.
     pub skipped: Vec<Error>,
 }
 
 impl ObjectDirectories {
-    /// Whether [`with_alternates`] would find the same now. If there was no list, and no alternate
-    /// is given, it is only looked whether a list has come; or else all is read again. The errors
-    /// are those of `with_alternates`.
+    /// Whether [`with_alternates`] would find the same directories and states now. If there was no
+    /// list and the environment adds no alternates, the call only looks for a list. Otherwise it
+    /// reads all again. The errors are those of `with_alternates`.
     ///
     /// ```
     /// let objects = find_objects(rt)?;
@@ -71,12 +72,11 @@ impl ObjectDirectories {
     }
 }
 
-/// An object directory and its alternates: those of the environment, and then those of its list, as
-/// Git links them.
+/// Finds an object directory and its alternates as Git links them: those of the environment, and
+/// then those of its list, each once, and nested up to 5 times.
 ///
-/// The alternates are read as by Git: each once, and nested up to 5 times. The errors are
-/// `Memory`, and the cause `File` if the directory is not there, or the list of a directory is
-/// there and cannot be read.
+/// The error is `Memory`, or the cause `File` if the directory is not there, or if a list of
+/// alternates is there and cannot be read. Alternates that cannot be used are skipped.
 ///
 /// ```
 /// let directories = with_alternates(rt, &find_objects(rt)?)?;
@@ -103,7 +103,7 @@ pub fn with_alternates<R: Directories>(
     };
     walk.walk_from(rt, real, &objects.alternates)?;
     let mut found = walk.found;
-    // Errors show the path as it was given.
+    // Errors have the path as it was given.
     put_first(&mut found.paths, objects.path.clone()?);
     Ok(found)
 }
@@ -122,7 +122,7 @@ fn put_first(paths: &mut Vec<String>, path: String)
 #[derive(Drop)]
 struct Walk {
     found: ObjectDirectories,
-    // The numbers of those whose absolute paths are not UTF-8.
+    // The numbers of the directories whose absolute paths are not UTF-8.
     numbers: Vec<FileNumber>,
 }
 
@@ -157,7 +157,7 @@ impl Walk {
         Ok(())
     }
 
-    // Adds why a path is skipped. The error is that memory ran out for it.
+    // Adds why a path is skipped. The error is returned if it is that memory ran out.
     fn skip(&mut self, why: Error) -> Result<(), Error>
         ensures { OnOk result (walk_of self.new ≡ skip (walk_of self.old)) }
     {
@@ -178,7 +178,7 @@ impl Walk {
         }
     }
 
-    // Adds directories and their alternates, `levels` levels together.
+    // Adds directories and their alternates, `levels` levels in all.
     fn visit_all<R: Directories>(
         &mut self,
         rt: &R,
@@ -197,8 +197,8 @@ impl Walk {
         Ok(())
     }
 
-    // Adds a directory, and returns the paths in its list. Returns none if it is there already, or
-    // is skipped: it cannot be read, or no level is left.
+    // Adds a directory, and returns the paths in its list. There are none if the directory is there
+    // already, or if it is skipped, since it cannot be read or no level is left.
     fn visit<R: Directories>(
         &mut self,
         rt: &R,
@@ -226,7 +226,8 @@ impl Walk {
         }
     }
 
-    // Skips an alternate that is no directory, or cannot be read, unless memory ran out.
+    // Skips an alternate that is not a directory or cannot be read. The error is that memory runs
+    // out, or ran out when the alternate was read.
     fn skip_unusable<R: Directories>(
         &mut self,
         rt: &R,
@@ -249,7 +250,8 @@ impl Walk {
         Ok(())
     }
 
-    // The paths in the list of alternates of a directory. Those that are not UTF-8 are skipped.
+    // Reads the paths in the list of alternates of a directory. Those that are not UTF-8 are
+    // skipped.
     fn list_at<R: Directories>(&mut self, rt: &R, directory: &str) -> Result<Vec<String>, Error>
         ensures { IfOk result (λ paths. IfKnown (λ at. list_at directory.now (walk_of self.old) at
             ≡ Some (walk_of self.new, map string_bytes paths.items)) (R.answers rt.now)) }
@@ -260,7 +262,7 @@ impl Walk {
         self.read_paths(rt, directory, &named)
     }
 
-    // Those of the paths that the list of a directory names.
+    // The paths that the list of a directory names, without those that are skipped.
     fn read_paths(
         &mut self,
         rt: &impl AllocGlobal,
@@ -300,7 +302,7 @@ impl Walk {
         self.skip(Error::text(rt.alloc(), &list, "a path is not UTF-8"))
     }
 
-    // The text of a list of alternates, which is empty if there is none.
+    // Reads the text of a list of alternates, which is empty if there is no list.
     fn text_at<R: Directories>(&mut self, rt: &R, list: &str) -> Result<Vec<u8>, Error>
         ensures same { walk_of self.new ≡ walk_of self.old }
         ensures text { IfOk result (λ text. IfKnown (λ at. text_at list.now at
@@ -321,7 +323,7 @@ impl Walk {
     }
 }
 
-// Why an alternate is skipped that is no directory, or that cannot be read.
+// Why an alternate is skipped that is not a directory, or that cannot be read.
 fn unusable(rt: &impl AllocGlobal, path: &str, error: io::Error) -> Error {
     match path.strip_suffix('\r') {
         Some(path) if is_missing(&error) => {

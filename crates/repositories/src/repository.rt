@@ -22,15 +22,14 @@ use std::env::{self, VarError};
 use std::io::{self, ErrorKind};
 use std::rt::Env;
 
-// How many directories are looked at above the current one, at most. A path has at most 4,096
-// bytes, two for each.
+// At most this many directories above the current one are looked at. A path has at most 4,096
+// bytes, and each directory takes two.
 const MAX_ABOVE: u16 = 4096 / 2;
 
-// The same by relative paths, which have three bytes for each.
+// At most this many are looked at by relative paths, in which each directory takes three bytes.
 const MAX_DOTS: u16 = 4096 / 3;
 
-/// What the environment says of a repository: the values of Git's variables of these names, if they
-/// are set.
+/// What the environment says of a repository: the values of Git's variables, if they are set.
 ///
 /// ```
 /// let given = Environment::read(rt)?;
@@ -49,8 +48,9 @@ pub struct Environment {
 }
 
 impl Environment {
-    /// What the environment of the program says. The errors are [`Error::Memory`] and the cause
-    /// [`Cause::Text`](crate::Cause::Text): a value is not UTF-8, or a path is empty.
+    /// Reads the environment of the program. The error is [`Error::Memory`], or the cause
+    /// [`Cause::Text`](crate::Cause::Text) if a value is not UTF-8 or the path of a directory is
+    /// empty.
     pub fn read(rt: &(impl Env + AllocGlobal)) -> Result<Environment, Error> {
         Ok(Environment {
             dir: path_variable(rt, "GIT_DIR")?,
@@ -61,8 +61,8 @@ impl Environment {
     }
 }
 
-// The path that is the value of a variable, if it is set. An empty one is no path of this
-// directory.
+// The path that is the value of a variable, if it is set. An empty path is an error, and not that
+// of the current directory.
 fn path_variable(rt: &(impl Env + AllocGlobal), name: &str) -> Result<Option<String>, Error> {
     match variable(rt, name)? {
         Some(path) if path.is_empty() => Err(Error::text(rt.alloc(), name, "empty")),
@@ -85,12 +85,13 @@ fn variable(rt: &(impl Env + AllocGlobal), name: &str) -> Result<Option<String>,
 pub(crate) struct Repository {
     // The directory with its objects, references and config.
     pub(crate) directory: String,
-    // From where relative paths of the environment lead: the top of its worktree, if it was found
-    // there, since Git goes there first. It is empty for the current directory.
+    // Relative paths of the environment lead from here: from the top of the worktree if the
+    // repository was found there, since Git goes there first, and otherwise from the current
+    // directory, which is an empty path.
     pub(crate) top: String,
 }
 
-// The search for the repository, by what the environment says.
+// A search for the repository, by what the environment says.
 #[derive(Drop)]
 pub(crate) struct Search<'a, R> {
     pub(crate) rt: &'a R,
@@ -98,8 +99,9 @@ pub(crate) struct Search<'a, R> {
 }
 
 impl<R: Directories> Search<'_, R> {
-    // The repository, if there is one. It is looked for from the current directory, and read from
-    // the top of its worktree, as by Git: so a relative `$GIT_COMMON_DIR` leads from there.
+    // Finds the repository, if there is one. As by Git, it is looked for from the current
+    // directory, and read from the top of its worktree, so a relative `$GIT_COMMON_DIR` leads from
+    // there.
     #[tactic(auto, unfolding(crate::specs::Discovery::find))]
     pub(crate) fn find(&self, here: Option<&str>) -> Result<Option<Repository>, Error>
         ensures { Finds (option_map repository_of) result
@@ -132,7 +134,7 @@ impl<R: Directories> Search<'_, R> {
         }
     }
 
-    // The repository of a directory, or of the first above it that has one.
+    // The repository of the current directory, or of the first directory above it that has one.
     fn find_from(&self, here: &str) -> Result<Option<Repository>, Error>
         ensures { Finds (option_map repository_of) result (find_from self.now.given.now here.now)
             (R.answers self.now.rt.now) }
@@ -147,7 +149,7 @@ impl<R: Directories> Search<'_, R> {
         }
     }
 
-    // The repository of the first of so many directories, from this one upwards, that has one.
+    // The repository of the first of this many directories, from this one upwards, that has one.
     #[tactic(auto, unfolding(crate::specs::Discovery::first_above))]
     fn first_above(&self, directory: &str, levels: u16) -> Result<Option<Repository>, Error>
         ensures { Finds (option_map repository_of) result
@@ -165,7 +167,8 @@ impl<R: Directories> Search<'_, R> {
         }
     }
 
-    // The same by relative paths, for a current directory whose path is not UTF-8.
+    // The repository that `first_above` finds, by relative paths, for a current directory whose
+    // path is not UTF-8.
     #[tactic(auto, unfolding(crate::specs::Discovery::find_above))]
     fn find_above(&self, directory: &str, levels: u16) -> Result<Option<Repository>, Error>
         ensures { Finds (option_map repository_of) result
@@ -184,7 +187,7 @@ impl<R: Directories> Search<'_, R> {
         self.find_above(&above, levels - 1)
     }
 
-    // The repository of a directory, if it has one: as `.git`, which is a directory or a gitfile,
+    // The repository of a directory, if it has one, as `.git`, which is a directory or a gitfile,
     // or else as a bare repository.
     #[tactic(auto, unfolding(crate::specs::Discovery::repository_in))]
     fn repository_in(&self, directory: &str) -> Result<Option<Repository>, Error>
@@ -213,7 +216,7 @@ impl<R: Directories> Search<'_, R> {
         }
     }
 
-    // The repository that is a directory, or the one that a file names.
+    // The repository that is at a path, or that the gitfile there names. It has to be one.
     fn required(&self, path: &str) -> Result<String, Error>
         ensures { Finds string_bytes result (required self.now.given.now path.now)
             (R.answers self.now.rt.now) }
@@ -225,7 +228,7 @@ impl<R: Directories> Search<'_, R> {
         }
     }
 
-    // The directory that is there, or the one that a file names.
+    // The path itself, or the directory that the gitfile there names.
     fn directory_at(&self, path: &str) -> Result<String, Error>
         ensures { Finds string_bytes result (directory_at path.now) (R.answers self.now.rt.now) }
     {
@@ -237,7 +240,8 @@ impl<R: Directories> Search<'_, R> {
     }
 
     // The repository that is a directory with `HEAD`, by the directory with its objects and
-    // references; `None` if there are none. Objects that the environment names need not be there.
+    // references, or `None` if these are not there. If the environment names an object directory,
+    // the repository need not have one.
     fn repository_at(&self, directory: &str) -> Result<Option<String>, Error>
         ensures { Finds (option_map string_bytes) result
             (repository_at self.now.given.now directory.now) (R.answers self.now.rt.now) }
@@ -264,7 +268,7 @@ impl<R: Directories> Search<'_, R> {
         }
     }
 
-    // Whether there are objects, and the references of a directory.
+    // Whether an object directory is there, and the references of a directory.
     fn has_both(&self, directory: &str) -> Result<bool, Error>
         ensures { Finds (λ has. has) result (has_both self.now.given.now directory.now)
             (R.answers self.now.rt.now) }
@@ -272,7 +276,7 @@ impl<R: Directories> Search<'_, R> {
         Ok(self.has_objects(directory)? && has_directory(self.rt, directory, "refs")?)
     }
 
-    // Whether there are the objects that the environment names, or else those of a directory.
+    // Whether the object directory of the environment is there, or else that of a directory.
     fn has_objects(&self, directory: &str) -> Result<bool, Error>
         ensures { Finds (λ has. has) result (has_objects self.now.given.now directory.now)
             (R.answers self.now.rt.now) }
@@ -314,7 +318,7 @@ fn with_top(
     Ok(Some(Repository { directory, top }))
 }
 
-// The directory that a file `.git` names.
+// The directory that a gitfile names.
 fn named_by<R: Directories>(rt: &R, path: &str) -> Result<String, Error>
     ensures { Finds string_bytes result (named_by path.now) (R.answers rt.now) }
 {
@@ -334,7 +338,8 @@ fn after_gitdir(text: &str) -> Option<&str>
     text.strip_prefix("gitdir: ")
 }
 
-// The directory that the file `commondir` of a worktree names, or else the directory itself.
+// The directory that the file `commondir` in a worktree's directory names, or the directory itself
+// if there is no such file.
 fn common_of<R: Directories>(rt: &R, directory: &str) -> Result<String, Error>
     ensures { Finds string_bytes result (common_of directory.now) (R.answers rt.now) }
 {
@@ -349,8 +354,8 @@ fn common_of<R: Directories>(rt: &R, directory: &str) -> Result<String, Error>
     }
 }
 
-// Whether a directory has a `HEAD` of a repository: a link to a reference, which need not be there,
-// or a file that names a reference or begins with an id. A directory is none.
+// Whether a directory has a `HEAD`: a link to a reference, which need not be there, or a file that
+// names a reference or begins with an id.
 fn has_head<R: Directories>(rt: &R, directory: &str) -> Result<bool, Error>
     ensures { Finds (λ has. has) result (has_head directory.now) (R.answers rt.now) }
 {
@@ -362,7 +367,7 @@ fn has_head<R: Directories>(rt: &R, directory: &str) -> Result<bool, Error>
     }
 }
 
-// Whether the path of a link cannot be read because there is none.
+// Whether the path of a link cannot be read because there is no link.
 fn is_no_link(error: &io::Error) -> bool
     ensures { result ≡ is_no_link (error_kind error.now) }
 {
@@ -386,7 +391,7 @@ fn has_head_file<R: Directories>(rt: &R, path: &str) -> Result<bool, Error>
     }
 }
 
-// Git reads the first 255 bytes.
+// Whether a file is a `HEAD`, by its first 255 bytes: it names a reference or begins with an id.
 #[tactic(auto, unfolding(crate::specs::Heads::is_head))]
 fn is_head(text: &[u8]) -> bool
     ensures { result ≡ is_head text.now }
@@ -412,7 +417,7 @@ fn begins_head(text: &[u8]) -> bool
     }
 }
 
-// How many hex digits a text begins with.
+// The number of hex digits at the front of a text.
 fn digits_len(text: &[u8]) -> usize
     ensures { result ≡ prefix_len is_ascii_hexdigit text.now }
 {
@@ -431,7 +436,7 @@ fn blanks_len(text: &[u8]) -> usize
         .count()
 }
 
-// A line without the line feeds and carriage returns at its end.
+// A text without the line feeds and carriage returns at its end.
 fn without_line_ends(line: &str) -> &str
     ensures { result.now ≡ without_line_ends line.now }
 {

@@ -15,17 +15,18 @@ use std::os::unix::fs::MetadataExt;
 use std::path::Path;
 use std::time::{Duration, SystemTime, UNIX_EPOCH};
 
-// A change may leave a time that is so many nanoseconds earlier, since the clock of files ticks up
-// to 10 ms after the system's, and a file system may count in 10 ms.
+// A change may leave a time that is this many nanoseconds earlier, since the clock of files ticks
+// up to 10 ms after the system's, and a file system may count in 10 ms.
 const GRAIN: u128 = 20_000_000;
 
-// The same of a time in whole seconds, as where a file system has no others.
+// A time in whole seconds may be this many nanoseconds earlier, since some file systems have no
+// others.
 const GRAIN_OF_SECONDS: u128 = 2_000_000_000;
 
 /// The state of a directory or file: which one it is, its size in bytes, and when it was modified
 /// and when it was changed. Of a time before 1970 only the nanoseconds are kept. If a path leads to
-/// nothing, its state is that of the first directory above that is there, and how many names are
-/// missing below: so what comes and goes again leaves another state, too.
+/// nothing, its state is that of the first directory above that is there, with the number of names
+/// that are missing below it. So what comes and goes again leaves another state, too.
 ///
 /// What is read between two equal states was there at one time, unless it changed twice within one
 /// tick of the file system's clock.
@@ -41,13 +42,14 @@ pub struct FileState {
     dev: u64,
     ino: u64,
     size: u64,
-    // Since 1970.
+    // Both times are since 1970.
     modified: Duration,
     changed: Duration,
 }
 
 impl FileState {
-    /// The state of the directory or file at a path. The error is that of a look at it or above.
+    /// Reads the state of what a path leads to. The error is that of a look at the path, or at a
+    /// directory above it if the path leads to nothing.
     pub fn of<R: Directories>(rt: &R, path: &str) -> io::Result<FileState>
         ensures { IfOk result (λ state. IfKnown (IsStateOf (or_here path.now) state)
             (R.answers rt.now)) }
@@ -59,7 +61,7 @@ impl FileState {
         }
     }
 
-    // The state of a path that leads to nothing.
+    // Reads the state of a path that leads to nothing.
     pub(crate) fn of_missing<R: Directories>(rt: &R, path: &str) -> io::Result<FileState>
         ensures { IfOk result (λ state. 0 < state.missing) }
     {
@@ -74,8 +76,8 @@ impl FileState {
         Err(ErrorKind::NotFound.into())
     }
 
-    /// The state of the directory or file at a path, or `None` if it leads to nothing. The error is
-    /// that of the look at it.
+    /// Reads the state of what a path leads to, or returns `None` if that is nothing. The error is
+    /// any other one of the look at the path.
     pub fn if_there<R: Directories>(rt: &R, path: &str) -> io::Result<Option<FileState>>
         ensures { IfOk result (λ state. IfKnown (λ at. state_at path.now at ≡ Some state)
             (R.answers rt.now)) }
@@ -86,8 +88,9 @@ impl FileState {
         }
     }
 
-    /// The state of a directory or file that is there: the number of its file system, its own
-    /// number in it, its size in bytes, and when it was modified and changed, since 1970.
+    /// Makes the state of a directory or file that is there. `dev` is the number of its file
+    /// system, `ino` its own number there, `size` its size in bytes, and the times at which it was
+    /// modified and changed are since 1970.
     pub fn from_parts(
         dev: u64,
         ino: u64,
@@ -128,7 +131,7 @@ impl FileState {
         )
     }
 
-    // The number of the directory or file, or of the one above.
+    // The number of the directory or file, or of the directory above if it is missing.
     pub(crate) fn number(&self) -> FileNumber
         ensures { result ≡ record { dev = self.now.dev; ino = self.now.ino } }
     {
@@ -138,10 +141,10 @@ impl FileState {
         }
     }
 
-    /// Whether each later change leaves another state, so that what is read from now on is there
-    /// as long as the state is this one: both times are earlier than `now`, the time before the
-    /// path was looked at, by 20 ms; or by 2 s if they are whole seconds, as where a file system
-    /// has no others.
+    /// Whether each later change leaves another state, so that what is read from now on is there as
+    /// long as the state stays this one. It is so if both times are earlier than `now`, a time
+    /// before the path was looked at, by 20 ms, or by 2 s if they are whole seconds, since some
+    /// file systems have no others.
     ///
     /// ```
     /// let now = SystemTime::now(rt)?;
@@ -171,7 +174,7 @@ fn or_here(path: &str) -> &str
     }
 }
 
-// Whether no change from now on leaves a time of a file.
+// Whether no change from now on leaves this time of a file.
 fn is_past(time: Duration, now: SystemTime) -> bool
     ensures { IsTrue result ↔ IsPast now time }
 {
@@ -185,8 +188,8 @@ fn is_past(time: Duration, now: SystemTime) -> bool
     }
 }
 
-// A time of a file, of seconds and nanoseconds. Of one before 1970 the nanoseconds are kept, so
-// that two such times mostly differ, too.
+// The time since 1970 of a file's seconds and nanoseconds. Of a time before 1970 the nanoseconds
+// are kept, so that two such times mostly differ, too.
 fn since_1970(secs: i64, nanos: i64) -> Duration
     ensures { as_nanos result ≡ from_zero secs * 1_000_000_000 + from_zero nanos }
 {
