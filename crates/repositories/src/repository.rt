@@ -65,7 +65,7 @@ impl Environment {
 // of the current directory.
 fn path_variable(rt: &(impl Env + AllocGlobal), name: &str) -> Result<Option<String>, Error> {
     match variable(rt, name)? {
-        Some(path) if path.is_empty() => Err(Error::text(rt.alloc(), name, "empty")),
+        Some(path) if path.is_empty() => Err(Error::text(rt.alloc(), name, "set, but empty")),
         path => Ok(path),
     }
 }
