@@ -6,7 +6,7 @@ use Rattle.id_lookup.proofs.Beginnings.{first_byte_of-begins}
 use Rattle.id_lookup.proofs.Filters.{contains_had, contains_kept, filter_within, kept_passes}
 use Rattle.id_lookup.proofs.SameMembers.{index-filter, one_position}
 use Rattle.id_lookup.proofs.Spelled.{starts_with-BeginsWith}
-use Rattle.object_store.specs.Several.{IsAbbreviated, IsAbbreviatedAs, IsAbbreviatedAt, IsAbbreviationOfKind}
+use Rattle.object_store.specs.Several.{IsAbbreviated, IsAbbreviatedAs}
 use Rattle.object_store.specs.Stores.{AreIdsRead, AreMatches, IsAbbreviationOf, IsNameIn, StoreView}
 use Rattle.object_store.specs.declared.parts.Abbreviation.{Abbreviation}
 use Rattle.object_store.specs.declared.parts.Abbreviation.TheVariants.{Ambiguous, Missing, Named}
@@ -50,9 +50,9 @@ module _ (fewest : ℕ) (digits front : List ℕ) (is : front ≡ take fewest di
 
 -- so it is decided by what begins with the first digits
 pub abbreviated : (fewest : ℕ) (view : StoreView) (digits front : List ℕ) (ids : List ObjectId) (abbreviation : Abbreviation) → front ≡ take fewest digits → 4 ≤ fewest
-    → 2 ≤ length digits → AreMatches view front ids → IsAbbreviatedAt fewest (map id_digits ids) digits abbreviation → IsAbbreviationOfKind view.kind abbreviation
+    → 2 ≤ length digits → AreMatches view front ids → IsAbbreviatedAs fewest view.kind (map id_digits ids) (matches digits (map id_digits ids)) abbreviation
     → IsAbbreviated fewest view digits abbreviation
-abbreviated fewest view digits front ids abbreviation is enough two are at kind = record {
+abbreviated fewest view digits front ids abbreviation is enough two are at = record {
   read = are.read;
   ids_read = subst (λ b. AreIdsRead view b are.read) (front_byte fewest digits front is enough two) are.ids_read;
   found = matches digits (map id_digits ids);
@@ -60,18 +60,19 @@ abbreviated fewest view digits front ids abbreviation is enough two are at kind 
       (filter_within (λ id. starts_with nat_eq id front) (λ id. starts_with nat_eq id digits) begins are.read)
       (index_of_passing view.kind (λ id. starts_with nat_eq id digits) (matches front are.read) (map id_digits ids) are.index);
   name = by abbreviation at;
-  kind = kind;
 }
   where
     begins : (id : List ℕ) → starts_with nat_eq id digits ≡ true → starts_with nat_eq id front ≡ true
     begins id = begins_less id digits front (begins_so fewest digits front is)
 
-    by : (a : Abbreviation) → IsAbbreviatedAt fewest (map id_digits ids) digits a → IsAbbreviatedAs fewest are.read (matches digits (map id_digits ids)) a
+    by : (a : Abbreviation) → IsAbbreviatedAs fewest view.kind (map id_digits ids) (matches digits (map id_digits ids)) a
+        → IsAbbreviatedAs fewest view.kind are.read (matches digits (map id_digits ids)) a
     by Missing none = none
     by Ambiguous many = many
     by (Named n) found = (
       found.0,
-      name_in_read view.kind fewest are.read (map id_digits ids) front are.index (omega (arith, size fewest digits front is)) found.1 (id_digits n.id) n.name.digits found.2 found.3 found.4,
+      name_in_read view.kind fewest are.read (map id_digits ids) front are.index (omega (arith, size fewest digits front is)) (id_digits n.id) n.name.digits found.1,
+      found.2,
     )
 
 -- the name of an id, as the only one that begins with all of its digits
@@ -118,6 +119,6 @@ module _ (fewest : ℕ) (view : StoreView) (id : List ℕ) (long : length id ≡
     ids_read = is.ids_read;
     is = (
       subst (λ (x : List ℕ). IsNameIn fewest is.read x n.name.digits) (is_only is.read is.found is.index (id_digits n.id) is.name.0) is.name.1,
-      is.kind.1,
+      is.name.2.1,
     );
   }

@@ -1,10 +1,15 @@
 -- Several prefixes that are looked up one after the other.
-use Rattle.gix_hash.proofs.Std.{◌≡◌, ◌≢◌, ◌∙◌, ℕ, ◌+◌, ◌<◌, ◌≤◌, ◌⊎◌, inl, inr, List, length, get_or, sym, ap, subst, arith, Contains, slice_set, length-set, sum_by, cases_lt, cases_order, get_or_default, get_or-set_same, get_or-set_other, get_or-le-sum_by, sum_by-set}
+use Rattle.gix_hash.proofs.Std.{◌≡◌, ◌≢◌, ◌∙◌, ℕ, ◌+◌, ◌<◌, ◌≤◌, ◌⊎◌, inl, inr, List, length, get_or, sym, ap, subst, arith, AllZip, Contains, slice_set, length-set, sum_by, cases_lt, cases_order, get_or_default, get_or-set_same, get_or-set_other, get_or-le-sum_by, sum_by-set}
 use Rattle.id_lookup.specs.Words.{KindDigits}
-use Rattle.object_store.specs.Stores.{AreFoundOfEach, ArePlaces, HaveMore, IsOfOne}
+use Rattle.object_store.specs.Stores.{ArePlaces, HaveMore, IsOfOne}
 use Rattle.object_store.specs.declared.error.Error.{Error}
 use Rattle.object_store.specs.declared.error.Error.TheVariants.{Memory}
 use Rattle.object_store.proofs.Places.{apart, at_each_place}
+use Rattle.object_store.proofs.Zipped.{zipped_from}
+
+-- what was found for a prefix has the relation to its digits
+abbrev pub FindsFor : {F : Type 0} → (List ℕ → F → Type 0) → KindDigits → F → Type 0
+FindsFor Finds prefix one = Finds prefix.digits one
 
 -- what was found at a position has the relation to the digits of its prefix
 abbrev pub IsFoundAt : {F : Type 0} → (List ℕ → F → Type 0) → List KindDigits → List F → ℕ → Type 0
@@ -27,12 +32,11 @@ module _ {F : Type 0} (Finds : List ℕ → F → Type 0) (size : F → ℕ) (pr
   }
 
   -- what was is found, and the others are nothing
-  pub some_found : (n : ℕ) (found : List F) → AreFoundAt Finds size prefixes places n found → AreFoundOfEach (λ digits one. Finds digits one ⊎ (size one ≡ 0)) prefixes found
-  some_found n found was = record {
-    as_many = was.long;
-    each = λ k prefix one low. at_each_place (length prefixes) places are (IsFoundAt (λ digits one. Finds digits one ⊎ (size one ≡ 0)) prefixes found)
-        (λ j p within prefix one. elim (cases_lt j n) [ inl less ↦ inl (was.first j p less prefix one) | inr from ↦ inr (was.left j p from within prefix one) ]) k low prefix one;
-  }
+  pub some_found : (n : ℕ) (found : List F) → AreFoundAt Finds size prefixes places n found → AllZip (FindsFor (λ digits one. Finds digits one ⊎ (size one ≡ 0))) prefixes found
+  some_found n found was =
+      let R : List ℕ → F → Type 0 = λ digits one. Finds digits one ⊎ (size one ≡ 0) in
+      zipped_from (FindsFor R) prefixes found was.long (λ k prefix one low. at_each_place (length prefixes) places are (IsFoundAt R prefixes found)
+      (λ j p within prefix one. elim (cases_lt j n) [ inl less ↦ inl (was.first j p less prefix one) | inr from ↦ inr (was.left j p from within prefix one) ]) k low prefix one)
 
   -- one more was
   module _ (n : ℕ) (found : List F) (was : AreFoundAt Finds size prefixes places n found) (p : ℕ × ℕ) (prefix : KindDigits) (one : F) (inside : n < length places)
@@ -84,11 +88,10 @@ module _ {F : Type 0} (Finds : List ℕ → F → Type 0) (size : F → ℕ) (pr
     have_more most room is less = record { some = slice_set found p.1 one; each = some_found (n + 1) (slice_set found p.1 one) one_more; more = omega (arith, is, less, size_more) }
 
   -- each was
-  pub all_found : (n : ℕ) (found : List F) → length places ≤ n → AreFoundAt Finds size prefixes places n found → AreFoundOfEach Finds prefixes found
-  all_found n found all was = record {
-    as_many = was.long;
-    each = λ k prefix one low. at_each_place (length prefixes) places are (IsFoundAt Finds prefixes found) (λ j p within. was.first j p (omega (arith, all, within))) k low prefix one;
-  }
+  pub all_found : (n : ℕ) (found : List F) → length places ≤ n → AreFoundAt Finds size prefixes places n found → AllZip (FindsFor Finds) prefixes found
+  all_found n found all was =
+      zipped_from (FindsFor Finds) prefixes found was.long (λ k prefix one low.
+      at_each_place (length prefixes) places are (IsFoundAt Finds prefixes found) (λ j p within. was.first j p (omega (arith, all, within))) k low prefix one)
 
 -- why one of them is not found
 pub of_one : (Fails : List ℕ → Error → Type 0) (prefixes : List KindDigits) (prefix : KindDigits) (error : Error) → Contains prefixes prefix → Fails prefix.digits error

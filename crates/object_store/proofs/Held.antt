@@ -1,7 +1,7 @@
 -- What is gathered of a store is what passes of the index of all its ids.
-use Rattle.gix_hash.proofs.Std.{◌≡◌, ℕ, inl, inr, ◌+◌, ◌<◌, ◌≤◌, Bool, Some, List, [], ◌∷◌, ◌++◌, length, get_or, map, filter, take, refl, sym, ap, ◌∙◌, subst, arith, append-nil, All, flat_map, get_or_default, get_or_from_slice_get, slice_get-get_or, slice_get_within, flat_map-append, get_or-append_seam, cases_lt, get_or-map, get_or_append_left, length-append, length-map, take_all, take_more, All-more, filter-append}
+use Rattle.gix_hash.proofs.Std.{◌≡◌, ℕ, inl, inr, ◌+◌, ◌<◌, Bool, Option, Some, List, [], ◌∷◌, ◌++◌, length, get_or, map, filter, take, refl, sym, ap, ◌∙◌, subst, arith, append-nil, All, flat_map, get_or_default, get_or_from_slice_get, slice_get-get_or, slice_get_within, flat_map-append, get_or-append_seam, cases_lt, get_or-map, get_or_append_left, length-append, length-map, take_more, filter-append}
 use Rattle.id_lookup.specs.Words.{Kind, first_byte_of}
-use Rattle.object_store.specs.Stores.{HasLocation, Holds, IsFirstFault, IsIndexReadOrMemory, IsLocateFault, IsLocationFault, IsOfIndex, IsStoreFault, StoreView}
+use Rattle.object_store.specs.Stores.{Holds, IsFirstFault, IsIndexReadOrMemory, IsLocateFault, IsLocationFault, IsOfIndex, IsOffsetOf, IsStoreFault, StoreView}
 use Rattle.pack_index.specs.Lazy.{HasBucket, IfKnown, IsBucketFault, LazyIndex}
 use Rattle.object_store.specs.declared.error.Error.{Error}
 use Rattle.object_store.specs.declared.error.Error.TheVariants.{Memory}
@@ -62,11 +62,6 @@ pack_here {kind} {packs} {at} d kinds low = record { low = low; is = get_or_defa
 -- the pack index at a position has what is asked for, as those before it, or is the first that has not
 module _ (Has : Kind → List ℕ → Type 0) (HasFault : Kind → Bool → List ℕ → LazyError → Type 0) (view : StoreView) {at : ℕ} {pack : LazyIndex}
     (here : IsPackAt view.kind view.packs at pack) (before : All (IfKnown (Has view.kind)) (take at view.packs)) where
-  pub have_more : IfKnown (Has pack.kind) pack → All (IfKnown (Has view.kind)) (take (at + 1) view.packs)
-  have_more has =
-      All-more (IfKnown (Has view.kind)) view.packs at pack here.low before
-      (subst (IfKnown (Has view.kind)) here.is (λ bytes known. subst (λ (k : Kind). Has k bytes) here.of_kind (has bytes known)))
-
   pub fault_at : (fault : LazyError) (e : Error) → IfKnown (λ bytes. HasFault pack.kind pack.can_fail bytes fault) pack → IsOfIndex (get_or view.paths at []) fault e
       → IsFirstFault (Has view.kind) (HasFault view.kind) view e
   fault_at fault (Memory error) why is = tt
@@ -79,10 +74,6 @@ module _ (Has : Kind → List ℕ → Type 0) (HasFault : Kind → Bool → List
     is,
     λ bytes known. subst (λ (k : Kind). HasFault k pack.can_fail bytes fault) here.of_kind (why bytes known),
   )
-
--- all of them have it
-pub have_all : (Has : List ℕ → Type 0) {packs given : List LazyIndex} {at : ℕ} → given ≡ packs → length given ≤ at → All (IfKnown Has) (take at packs) → All (IfKnown Has) packs
-have_all Has {packs} {given} {at} value all have = subst (All (IfKnown Has)) (take_all at packs (subst (λ (ps : List LazyIndex). length ps ≤ at) value all)) have
 
 -- a store whose pack indexes are ones has no fault
 no_first_fault : (Has : List ℕ → Type 0) (HasFault : Bool → List ℕ → LazyError → Type 0) (view : StoreView) (whole : List (List ℕ))
@@ -117,5 +108,5 @@ no_location_fault can_fail kind bytes digits e index fault = no_bucket_fault can
 
 pub no_locate_fault : (view : StoreView) (whole : List (List ℕ)) (digits : List ℕ) (e : Error) → Holds view whole → IsLocateFault view digits e → IsIndexReadOrMemory view e
 no_locate_fault view whole digits e =
-    no_first_fault (λ bytes. HasLocation view.kind bytes digits) (λ can_fail bytes why. IsLocationFault can_fail view.kind bytes digits why) view whole e
+    no_first_fault (λ bytes. (offset : Option ℕ) × IsOffsetOf view.kind bytes digits offset) (λ can_fail bytes why. IsLocationFault can_fail view.kind bytes digits why) view whole e
     (λ can_fail bytes. no_location_fault can_fail view.kind bytes digits)

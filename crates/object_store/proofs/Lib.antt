@@ -1,3 +1,4 @@
+pub mod Zipped
 pub mod Held
 pub mod Located
 pub mod Named

@@ -1,6 +1,6 @@
 -- A name that is decided among the ids that were gathered is the name in the whole store.
 use Rattle.gix_hash.proofs.Std.{◌≡◌, ℕ, ◌+◌, ◌-◌, inl, inr, ◌<◌, ◌≤◌, true, nat_eq, Some, List, [], ◌∷◌, ◌++◌, length, get_or, map, take, drop, refl, sym, ap, ◌∙◌, subst, arith, append_assoc, take-append-drop, slice_get, All, Contains, starts_with, take-append-add, cases_order, false≢true, get_or_from_slice_get, get_or_default, get_or-map, length-map, length-take-le, map-append, take_more, Contains-get_or}
-use Rattle.id_lookup.specs.Words.{IsIndexOf, IsShortestNameFrom, Kind, ObjectId, id_digits, matches}
+use Rattle.id_lookup.specs.Words.{IsIndex, IsIndexOf, IsShortestNameFrom, Kind, ObjectId, id_digits, matches}
 use Rattle.id_lookup.proofs.Filters.{contains_had, contains_kept, kept_passes}
 use Rattle.id_lookup.proofs.SameMembers.{one_position}
 use Rattle.id_lookup.proofs.Spelled.{starts_with-BeginsWith}
@@ -24,40 +24,43 @@ begins_fewer other id front n few begins more =
     (starts_with-BeginsWith other front).1
     (take (n - length front) is.0 ++ there.0, there.1 ∙ ap (λ (xs : List ℕ). xs ++ there.0) split ∙ append_assoc front (take (n - length front) is.0) there.0)
 
--- the name of an id among those that begin with some first digits of it is its name among all
-module _ (kind : Kind) (least : ℕ) (read ids : List (List ℕ)) (front : List ℕ) (index : IsIndexOf kind (matches front read) ids) (few : length front ≤ least) where
-  -- a member of the index is one of all, and begins so
-  had : (id : List ℕ) → Contains ids id → Contains read id
-  had id has = contains_had (λ x. starts_with nat_eq x front) read id ((index.members id).0 has)
+-- the shortest prefix of the id at a position of an index is its name there
+pub name_there : (kind : Kind) (least : ℕ) (ids : List (List ℕ)) → IsIndex kind ids → (at : ℕ) (id name : List ℕ) → at < length ids → get_or ids at [] ≡ id
+    → IsShortestNameFrom least ids at name → IsNameIn least ids id name
+name_there kind least ids index at id name low is short = record {
+  has = (at, low, get_or_default ids at id [] low ∙ is);
+  first = short.first ∙ ap (take (length name)) is;
+  long = short.long;
+  alone = λ other there begins.
+      let same : get_or ids there.0 [] ≡ other = sym (get_or_default ids there.0 other [] there.1) ∙ there.2 in
+      elim (cases_order there.0 at) [
+        | inl at_it ↦ sym same ∙ ap (λ n. get_or ids n []) at_it ∙ is
+        | inr apart ↦ absurd (false≢true (sym (short.alone there.0 there.1 (λ e. elim apart [ inl less ↦ omega (arith, e, less) | inr above ↦ omega (arith, e, above) ]))
+            ∙ subst (λ (x : List ℕ). starts_with nat_eq x name ≡ true) (sym same) begins))
+      ];
+  least = λ n from to.
+      let r = short.least n from to in
+      (get_or ids r.0 [], Contains-get_or ids r.0 [] r.1, λ same. r.2 (one_position kind ids index r.0 at r.1 low (same ∙ sym is)), r.3);
+}
 
-  pub name_in_read : (at : ℕ) (id name : List ℕ) → at < length ids → get_or ids at [] ≡ id → IsShortestNameFrom least ids at name → IsNameIn least read id name
-  name_in_read at id name low is short =
-      let here : Contains ids id = (at, low, get_or_default ids at id [] low ∙ is) in
-      let passes : starts_with nat_eq id front ≡ true = kept_passes (λ x. starts_with nat_eq x front) read id ((index.members id).0 here) in
-      let first : name ≡ take (length name) id = short.first ∙ ap (take (length name)) is in
-      record {
-        has = had id here;
-        first = first;
-        long = short.long;
-        alone = λ other has begins.
-            let more : starts_with nat_eq other (take (length name) id) ≡ true = subst (λ (n : List ℕ). starts_with nat_eq other n ≡ true) first begins in
-            let there = (index.members other).1 (contains_kept (λ x. starts_with nat_eq x front) read other has
-            (begins_fewer other id front (length name) (omega (arith, few, short.long)) passes more)) in
-            let same : get_or ids there.0 [] ≡ other = sym (get_or_default ids there.0 other [] there.1) ∙ there.2 in
-            elim (cases_order there.0 at) [
-              | inl at_it ↦ sym same ∙ ap (λ n. get_or ids n []) at_it ∙ is
-              | inr apart ↦ absurd (false≢true (sym (short.alone there.0 there.1 (λ e. elim apart [ inl less ↦ omega (arith, e, less) | inr above ↦ omega (arith, e, above) ]))
-                  ∙ subst (λ (x : List ℕ). starts_with nat_eq x name ≡ true) (sym same) begins))
-            ];
-        least = λ n from to.
-            let r = short.least n from to in
-            let other = get_or ids r.0 [] in (
-              other,
-              had other (Contains-get_or ids r.0 [] r.1),
-              λ same. r.2 (one_position kind ids index.index r.0 at r.1 low (same ∙ sym is)),
-              r.3,
-            );
-      }
+-- the name of an id among those that begin with some first digits of it is its name among all
+pub name_in_read : (kind : Kind) (least : ℕ) (read ids : List (List ℕ)) (front : List ℕ) → IsIndexOf kind (matches front read) ids → length front ≤ least
+    → (id name : List ℕ) → IsNameIn least ids id name → IsNameIn least read id name
+name_in_read kind least read ids front index few id name is = record {
+  has = had id is.has;
+  first = is.first;
+  long = is.long;
+  alone = λ other there begins.
+      let passes : starts_with nat_eq id front ≡ true = kept_passes (λ x. starts_with nat_eq x front) read id ((index.members id).0 is.has) in
+      let more : starts_with nat_eq other (take (length name) id) ≡ true = subst (λ (n : List ℕ). starts_with nat_eq other n ≡ true) is.first begins in
+      let passes_too = begins_fewer other id front (length name) (omega (arith, few, is.long)) passes more in
+      is.alone other ((index.members other).1 (contains_kept (λ x. starts_with nat_eq x front) read other there passes_too)) begins;
+  least = λ n from to. let other = is.least n from to in (other.0, had other.0 other.1, other.2, other.3);
+}
+  where
+    -- a member of the index is one of all
+    had : (other : List ℕ) → Contains ids other → Contains read other
+    had other has = contains_had (λ x. starts_with nat_eq x front) read other ((index.members other).0 has)
 
 -- of each id with a first byte
 pub names_read : (kind : Kind) (least : ℕ) (read : List (List ℕ)) (front : List ℕ) (ids : List ObjectId) (named : List NamedId) → length front ≤ least
@@ -70,7 +73,8 @@ names_read kind least read front ids named few index all short k d low =
     let within : k < length (map id_digits ids) = omega (arith, many, low, length-map ids id_digits) in
     let at : get_or ids k n.id ≡ n.id = ap (λ (xs : List ObjectId). get_or xs k n.id) (sym all) ∙ get_or-map (λ (n : NamedId). n.id) named k d n.id low in
     let is : get_or (map id_digits ids) k [] ≡ id_digits n.id = get_or-map id_digits ids k n.id [] (omega (arith, many, low)) ∙ ap id_digits at in
-    name_in_read kind least read (map id_digits ids) front index few k (id_digits n.id) n.name.digits within is (short k d low)
+    name_in_read kind least read (map id_digits ids) front index few (id_digits n.id) n.name.digits
+    (name_there kind least (map id_digits ids) index.index k (id_digits n.id) n.name.digits within is (short k d low))
 
 -- the digits of the ids that are named
 pub named_digits : (ids : List ObjectId) (named : List NamedId) → map (λ (n : NamedId). n.id) named ≡ ids → map (λ (n : NamedId). id_digits n.id) named ≡ map id_digits ids

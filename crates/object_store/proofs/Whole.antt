@@ -4,12 +4,15 @@ use Rattle.id_lookup.specs.Words.{IsIndexOf, ObjectId, first_byte_of, has_first_
 use Rattle.id_lookup.proofs.Beginnings.{first_byte_of-begins, matches-part, same_test}
 use Rattle.id_lookup.proofs.Filters.{contains_had, contains_kept, kept_passes}
 use Rattle.id_lookup.proofs.SameMembers.{part_is}
+use Rattle.std.proofs.lemmas.Slice.Zip.{AllZip-long}
 use Rattle.pack_index.specs.Format.{names_in}
 use Rattle.pack_index.specs.Lazy.{LazyIndex}
 use Rattle.pack_index.proofs.Buckets.{counted_all}
 use Rattle.object_store.specs.Stores.{AreIdsRead, AreMatches, Holds, IsNameIn, StoreView}
 use Rattle.object_store.proofs.Held.{as_many, filter-flat_map, known_at}
 use Rattle.object_store.proofs.Named.{begins_itself}
+use Rattle.object_store.proofs.PartNames.{AreCounted}
+use Rattle.object_store.proofs.Zipped.{zipped_at}
 
 module _ (view : StoreView) (whole : List (List ℕ)) (byte : ℕ) (read : List (List ℕ)) (h : Holds view whole) (r : AreIdsRead view byte read) where
   abbrev packed : List (List ℕ)
@@ -22,16 +25,16 @@ module _ (view : StoreView) (whole : List (List ℕ)) (byte : ℕ) (read : List 
   each_counted : r.names ≡ map counted h.indexes
   each_counted =
       let many = as_many view.packs h.indexes h.known in
-      ext_get_or [] r.names (map counted h.indexes) (omega (arith, r.are_read.as_many, many, length-map h.indexes counted)) (λ k low.
+      let long : length r.names ≡ length view.packs = AllZip-long (AreCounted view.kind byte) view.packs r.names r.counted in
+      ext_get_or [] r.names (map counted h.indexes) (omega (arith, long, many, length-map h.indexes counted)) (λ k low.
       let p : LazyIndex = record { kind = view.kind; count = 0; content = None; path = []; can_fail = true } in
-      let inside : k < length view.packs = omega (arith, low, r.are_read.as_many) in
+      let inside : k < length view.packs = omega (arith, low, long) in
       let within : k < length h.indexes = omega (arith, inside, many) in
       let bytes = get_or h.indexes k [] in
       let known = known_at view.packs h.indexes h.known k p inside in
       let index = h.are_indexes k [] within in
-      let bucket = r.are_read.sound k p inside bytes known in
-      r.are_read.each k p inside bytes known
-      ∙ counted_all view.kind byte bytes index.names.tables index.names.counts r.are_read.small bucket.in_order bucket.inside bucket.first
+      let there = zipped_at (AreCounted view.kind byte) view.packs r.names r.counted k p [] inside bytes known in
+      there.1 ∙ counted_all view.kind byte bytes index.names.tables index.names.counts r.small there.0.in_order there.0.inside there.0.first
       ∙ sym (get_or-map counted h.indexes k [] [] within))
 
   pub read_is : read ≡ part_of byte packed ++ view.loose

@@ -1,8 +1,8 @@
 -- The locations and the abbreviations of the ids that begin with each of several prefixes.
-use Rattle.std.specs.Prelude.{◌≡◌, ℕ, ◌<◌, ◌/◌, ◌%◌, ◌⊎◌, List, [], ◌∷◌, None, Option, Some, Vec, length, map, slice_index_or, string_bytes, take, All, Contains}
-use Rattle.std.specs.List.{sum_by}
-use Rattle.id_lookup.specs.Words.{IsIndexOf, IsShortestNameFrom, Kind, KindDigits, ObjectId, first_byte_of, id_digits, matches}
-use Rattle.object_store.specs.Stores.{AreFoundOfEach, AreIdsRead, AreLocations, AreMatches, HaveMore, IsLocateFault, IsNameIn, IsOfKind, IsOfOne, IsStoreFault, StoreView}
+use Rattle.std.specs.Prelude.{◌≡◌, ℕ, ◌<◌, ◌/◌, ◌%◌, ◌⊎◌, List, [], ◌∷◌, None, Option, Some, Vec, length, map, string_bytes, take, All, Contains}
+use Rattle.std.specs.List.{AllZip, sum_by}
+use Rattle.id_lookup.specs.Words.{IsIndexOf, Kind, KindDigits, ObjectId, first_byte_of, id_digits, matches}
+use Rattle.object_store.specs.Stores.{AreIdsRead, AreLocations, AreMatches, HaveMore, IsLocateFault, IsNameIn, IsOfKind, IsOfOne, IsStoreFault, StoreView}
 use Rattle.object_store.specs.declared.error.Error.{Error}
 use Rattle.object_store.specs.declared.parts.LocatedId.{LocatedId}
 use Rattle.object_store.specs.declared.parts.NamedId.{NamedId}
@@ -34,7 +34,8 @@ IsLocationsFault limit view digits error =
 
 -- a list for each prefix: of the ids that begin with it the first up to the limit, each with its locations
 abbrev pub AreLocatedOfEach : {A : Type 0} → Option ℕ → StoreView → (List ℕ → List (List ℕ)) → List KindDigits → List (Vec (LocatedId A) A) → Type 0
-AreLocatedOfEach limit view loose_paths prefixes located = AreFoundOfEach (λ digits ids. AreLocated limit view loose_paths digits ids.items) prefixes located
+AreLocatedOfEach {A} limit view loose_paths prefixes located =
+    AllZip (λ (prefix : KindDigits) (ids : Vec (LocatedId A) A). AreLocated limit view loose_paths prefix.digits ids.items) prefixes located
 
 -- how many locations ids have
 abbrev pub location_count : {A : Type 0} → Vec (LocatedId A) A → ℕ
@@ -49,34 +50,20 @@ HaveMoreLocations A limit view loose_paths most prefixes =
 abbrev pub IsLocationsFaultOfOne : Option ℕ → StoreView → List KindDigits → Error → Type 0
 IsLocationsFaultOfOne limit view prefixes error = IsOfOne (IsLocationsFault limit view) prefixes error
 
--- the only one that was found, with its name among the ids; or none was found, or more than one
-abbrev pub IsAbbreviatedAs : ℕ → List (List ℕ) → List (List ℕ) → Abbreviation → Type 0
-IsAbbreviatedAs fewest ids found Missing = found ≡ []
-IsAbbreviatedAs fewest ids found Ambiguous = 1 < length found
-IsAbbreviatedAs fewest ids found (Named named) = (found ≡ id_digits named.id ∷ []) × IsNameIn fewest ids (id_digits named.id) named.name.digits
+-- the only one that was found, with its name among the ids, both of the kind; or none was found, or more than one
+abbrev pub IsAbbreviatedAs : ℕ → Kind → List (List ℕ) → List (List ℕ) → Abbreviation → Type 0
+IsAbbreviatedAs fewest kind ids found Missing = found ≡ []
+IsAbbreviatedAs fewest kind ids found Ambiguous = 1 < length found
+IsAbbreviatedAs fewest kind ids found (Named named) =
+    (found ≡ id_digits named.id ∷ []) × IsNameIn fewest ids (id_digits named.id) named.name.digits × IsOfKind kind named
 
--- so of an index: the only member that begins with the digits, with its name there
-abbrev pub IsAbbreviatedAt : ℕ → List (List ℕ) → List ℕ → Abbreviation → Type 0
-IsAbbreviatedAt fewest ids digits Missing = matches digits ids ≡ []
-IsAbbreviatedAt fewest ids digits Ambiguous = 1 < length (matches digits ids)
-IsAbbreviatedAt fewest ids digits (Named named) =
-    (matches digits ids ≡ id_digits named.id ∷ [])
-    × (at : ℕ) × (at < length ids) × (slice_index_or ids at [] ≡ id_digits named.id) × IsShortestNameFrom fewest ids at named.name.digits
-
--- if there is one, it is of the kind
-abbrev pub IsAbbreviationOfKind : Kind → Abbreviation → Type 0
-IsAbbreviationOfKind kind (Named named) = IsOfKind kind named
-IsAbbreviationOfKind kind Missing = Unit {0}
-IsAbbreviationOfKind kind Ambiguous = Unit {0}
-
--- so of those that were read: `found` are the ones that begin with the digits, each once
+-- so of those that were read, `found` being the ones that begin with the digits, each once
 pub record IsAbbreviated (fewest : ℕ) (view : StoreView) (digits : List ℕ) (abbreviation : Abbreviation) : Type 0 where
   pub read : List (List ℕ)
   pub ids_read : AreIdsRead view (first_byte_of digits) read
   pub found : List (List ℕ)
   pub index : IsIndexOf view.kind (matches digits read) found
-  pub name : IsAbbreviatedAs fewest read found abbreviation
-  pub kind : IsAbbreviationOfKind view.kind abbreviation
+  pub name : IsAbbreviatedAs fewest view.kind read found abbreviation
 
 -- those with a first byte, which are those that begin with its two digits, each once, in order, with its name
 pub record AreNamed (fewest : ℕ) (view : StoreView) (byte : ℕ) (named : List NamedId) : Type 0 where
@@ -94,4 +81,4 @@ id_count (Named named) = 1
 
 -- an abbreviation for each prefix
 abbrev pub AreAbbreviatedOfEach : ℕ → StoreView → List KindDigits → List Abbreviation → Type 0
-AreAbbreviatedOfEach least view prefixes abbreviations = AreFoundOfEach (IsAbbreviated least view) prefixes abbreviations
+AreAbbreviatedOfEach least view prefixes abbreviations = AllZip (λ (prefix : KindDigits). IsAbbreviated least view prefix.digits) prefixes abbreviations

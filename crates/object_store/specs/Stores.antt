@@ -1,6 +1,6 @@
 -- What an object store holds, where it has an object, and what is found in it. Ids and names are given by their digits.
-use Rattle.std.specs.Prelude.{[], ℕ, ◌++◌, ◌<◌, ◌∷◌, ◌≡◌, ◌≢◌, ◌≤◌, ◌⊎◌, All, Bool, Contains, IsTrue, List, MatchOption, None, Option, Some, String, Vec, flat_map, if◌then◌else◌, length, map, nat_eq, option_map, slice_get, slice_index_or, string_bytes, suc, take, zero, bytes_eq}
-use Rattle.std.specs.List.{list_any, position, range_with_len, starts_with, sum_by}
+use Rattle.std.specs.Prelude.{[], ℕ, ◌++◌, ◌<◌, ◌∷◌, ◌≡◌, ◌≢◌, ◌≤◌, ◌⊎◌, All, Bool, Contains, IsTrue, List, MatchOption, None, Option, Some, String, Vec, flat_map, if◌then◌else◌, length, map, nat_eq, option_map, slice_get, slice_index_or, string_bytes, suc, take, bytes_eq}
+use Rattle.std.specs.List.{AllZip, list_any, position, range_with_len, starts_with, sum_by}
 use Rattle.std.specs.List.Sorted.{IsPermutation}
 use Rattle.std.specs.IoError.{error_kind}
 use Rattle.std.specs.Global.{Global}
@@ -8,7 +8,7 @@ use Rattle.std.specs.declared.io.Error.{Error as IoError}
 use Rattle.std.specs.declared.io.ErrorKind.{ErrorKind}
 use Rattle.std.specs.declared.io.ErrorKind.TheVariants.{NotFound}
 use Rattle.id_lookup.specs.Words.{IsIndexOf, Kind, KindDigits, ObjectId, first_byte_of, id_digits, id_kind, matches}
-use Rattle.pack_index.specs.Format.{HasOffset, IsFirstIndexOf, IsPackIndex, names_in, offset_in}
+use Rattle.pack_index.specs.Format.{HasOffset, IsPackIndex, names_in, offset_in}
 use Rattle.pack_index.specs.Lazy.{BucketNames, HasBucket, IfKnown, IsBucketFault, IsFirstCounted, IsPartOf, LazyIndex, counted_with}
 use Rattle.pack_index.specs.Lazy as lazy
 use Rattle.pack_index.specs.declared.lazy_error.LazyError.{LazyError}
@@ -96,25 +96,24 @@ abbrev pub IsStoreFault : StoreView → ℕ → Error → Type 0
 IsStoreFault view byte error =
     IsFirstFault (λ bytes. HasBucket view.kind bytes byte) (λ can_fail bytes why. IsBucketFault can_fail view.kind bytes byte why) view error
 
--- a pack index has the names that are counted with the first byte of the id of these digits, and an offset if the id is one of them
-pub record HasLocation (kind : Kind) (bytes digits : List ℕ) : Type 0 where
-  pub bucket : HasBucket kind bytes (first_byte_of digits)
-  pub offset : (at : ℕ) → IsFirstCounted kind bytes digits at → HasOffset kind bytes at
+-- a pack index has the names that are counted with the first byte of the id, and this is the offset, which is in a table, of the first of them that is the
+-- id, or none if none of them is
+abbrev pub IsOffsetOf : Kind → List ℕ → List ℕ → Option ℕ → Type 0
+IsOffsetOf kind bytes id None = HasBucket kind bytes (first_byte_of id) × ((at : ℕ) → ¬ IsFirstCounted kind bytes id at)
+IsOffsetOf kind bytes id (Some offset) =
+    HasBucket kind bytes (first_byte_of id) × (at : ℕ) × IsFirstCounted kind bytes id at × HasOffset kind bytes at × (offset ≡ offset_in kind bytes at)
 
--- why they are not read
+-- why it is not read
 abbrev pub IsLocationFault : Bool → Kind → List ℕ → List ℕ → LazyError → Type 0
 IsLocationFault can_fail kind bytes digits (faults.NoOffset at) =
     HasBucket kind bytes (first_byte_of digits) × IsFirstCounted kind bytes digits at × ¬ HasOffset kind bytes at
 IsLocationFault can_fail kind bytes digits error = IsBucketFault can_fail kind bytes (first_byte_of digits) error
 
--- the same of all pack indexes, as for a first byte
-abbrev pub HaveLocations : StoreView → List ℕ → Type 0
-HaveLocations view digits = All (IfKnown (λ bytes. HasLocation view.kind bytes digits)) view.packs
-
 -- why the locations of an id are not read: the first pack index with a fault, and that fault
 abbrev pub IsLocateFault : StoreView → List ℕ → Error → Type 0
 IsLocateFault view digits error =
-    IsFirstFault (λ bytes. HasLocation view.kind bytes digits) (λ can_fail bytes why. IsLocationFault can_fail view.kind bytes digits why) view error
+    IsFirstFault (λ bytes. (offset : Option ℕ) × IsOffsetOf view.kind bytes digits offset)
+    (λ can_fail bytes why. IsLocationFault can_fail view.kind bytes digits why) view error
 
 -- a read failed of a pack index that is read from what may fail, or memory ran out
 abbrev pub IsIndexReadOrMemory : StoreView → Error → Type 0
@@ -129,19 +128,11 @@ IsIndexReadOrMemory view error =
 abbrev pub offset_of : Kind → List ℕ → List ℕ → Option ℕ
 offset_of kind bytes id = option_map (offset_in kind bytes) (position (λ name. bytes_eq name id) (names_in kind bytes))
 
--- the pack index has the name of the id, whose first index has this offset
-abbrev pub HasObjectAt : Kind → List ℕ → List ℕ → ℕ → Type 0
-HasObjectAt kind bytes id offset = (at : ℕ) × IsFirstIndexOf (names_in kind bytes) id at × (offset ≡ offset_in kind bytes at)
-
--- the location at an offset in the pack of this number
-abbrev pub packed_at : ℕ → Option ℕ → List Location
-packed_at pack None = []
-packed_at pack (Some offset) = Packed pack offset ∷ []
-
--- the locations in the first n packs, in order
-unfoldable pub packed_locations : Kind → List ℕ → List (List ℕ) → ℕ → List Location
-packed_locations kind id indexes zero = []
-packed_locations kind id indexes (suc n) = packed_locations kind id indexes n ++ packed_at n (offset_of kind (slice_index_or indexes n []) id)
+-- the locations at the offsets that packs have of an object, one or none each, where the first of these packs has this number
+abbrev pub in_packs : ℕ → List (Option ℕ) → List Location
+in_packs pack [] = []
+in_packs pack (None ∷ offsets) = in_packs (suc pack) offsets
+in_packs pack (Some offset ∷ offsets) = Packed pack offset ∷ in_packs (suc pack) offsets
 
 -- the location of the object of an id among the loose objects, if it is one of them
 abbrev pub loose_at : List ℕ → List (List ℕ) → List Location
@@ -149,51 +140,25 @@ loose_at id loose_ids = if list_any (λ loose. bytes_eq loose id) loose_ids then
 
 -- the locations in all packs, and the last one if the object is loose
 abbrev pub locations_of : Kind → List ℕ → List (List ℕ) → List (List ℕ) → List Location
-locations_of kind id indexes loose_ids = packed_locations kind id indexes (length indexes) ++ loose_at id loose_ids
+locations_of kind id indexes loose_ids = in_packs 0 (map (λ bytes. offset_of kind bytes id) indexes) ++ loose_at id loose_ids
 
 -- The names of a store with one first byte, and what is found among them.
 
--- names of the pack index at a position, among which are all that begin with the digits
-abbrev pub IsPartAt : StoreView → ℕ → List ℕ → BucketNames → Type 0
-IsPartAt view at digits part = (pack : LazyIndex) → IsPartOf (slice_index_or view.packs at pack) digits part
-
--- why they are not read, if the bytes of the pack index are known
-abbrev pub IsPartFault : StoreView → ℕ → List ℕ → LazyError → Type 0
-IsPartFault view at digits error =
-    (default : LazyIndex) → let pack = slice_index_or view.packs at default in
-    IfKnown (λ bytes. IsBucketFault pack.can_fail pack.kind bytes (first_byte_of digits) error) pack
-
--- each of the first parts is one of the pack index at its position
-abbrev pub AreFirstParts : List LazyIndex → List ℕ → List BucketNames → Type 0
-AreFirstParts packs digits parts =
-    (k : ℕ) (pack : LazyIndex) (part : BucketNames) → k < length parts → IsPartOf (slice_index_or packs k pack) digits (slice_index_or parts k part)
-
--- the names that each pack index counts with the first byte, if its bytes are known
-pub record AreRead (view : StoreView) (byte : ℕ) (names : List (List (List ℕ))) : Type 0 where
+-- the ids in which a store looks up what has the first byte: the names that each pack index counts with it, and has, if its bytes are known, and the loose ids
+pub record AreIdsRead (view : StoreView) (byte : ℕ) (ids : List (List ℕ)) : Type 0 where
   pub small : byte < 256
-  pub as_many : length names ≡ length view.packs
-  pub each : (k : ℕ) (pack : LazyIndex) → k < length view.packs
-      → IfKnown (λ bytes. slice_index_or names k [] ≡ counted_with view.kind bytes byte) (slice_index_or view.packs k pack)
-  pub sound : HaveBuckets view byte
+  pub names : List (List (List ℕ))
+  pub counted : AllZip (λ (pack : LazyIndex) (some : List (List ℕ)).
+      IfKnown (λ bytes. HasBucket view.kind bytes byte × (some ≡ counted_with view.kind bytes byte)) pack) view.packs names
+  pub all : ids ≡ flat_map (λ (some : List (List ℕ)). some) names ++ view.loose
 
--- each is a part of the pack index at its position, and they have those of the names with the first byte that begin with the digits
+-- each is a part of the pack index at its position, and with the loose ids they have those of the ids that were read that begin with the digits
 pub record AreParts (view : StoreView) (digits : List ℕ) (parts : List BucketNames) : Type 0 where
   pub enough : 2 ≤ length digits
-  pub as_many : length parts ≡ length view.packs
-  pub each : AreFirstParts view.packs digits parts
-  pub names : List (List (List ℕ))
-  pub read : AreRead view (first_byte_of digits) names
-  pub matched : flat_map (λ (part : BucketNames). matches digits part.names) parts ≡ flat_map (matches digits) names
-
--- the names of all pack indexes, and the loose ids
-abbrev pub ids_in : StoreView → List (List (List ℕ)) → List (List ℕ)
-ids_in view names = flat_map (λ (some : List (List ℕ)). some) names ++ view.loose
-
--- the ids in which a store looks up what has the first byte: the names that were read, and the loose ids
-pub record AreIdsRead (view : StoreView) (byte : ℕ) (ids : List (List ℕ)) : Type 0 where
-  pub names : List (List (List ℕ))
-  pub are_read : AreRead view byte names
-  pub all : ids ≡ ids_in view names
+  pub each : AllZip (λ (pack : LazyIndex) (part : BucketNames). IsPartOf pack digits part) view.packs parts
+  pub read : List (List ℕ)
+  pub ids_read : AreIdsRead view (first_byte_of digits) read
+  pub matched : flat_map (λ (part : BucketNames). matches digits part.names) parts ++ matches digits view.loose ≡ matches digits read
 
 -- the ids that begin with the digits, of those that were read, each once, in order
 pub record AreMatches (view : StoreView) (digits : List ℕ) (ids : List ObjectId) : Type 0 where
@@ -214,19 +179,14 @@ pub record CanLookUp (view : StoreView) (prefix : KindDigits) : Type 0 where
   pub kind : prefix.kind ≡ view.kind
   pub listed : IsListed view (first_byte_of prefix.digits)
 
--- what was found for each prefix, in their order, has the relation to its digits
-pub record AreFoundOfEach {Found : Type 0} (Finds : List ℕ → Found → Type 0) (prefixes : List KindDigits) (found : List Found) : Type 0 where
-  pub as_many : length found ≡ length prefixes
-  pub each : (k : ℕ) (prefix : KindDigits) (one : Found) → k < length prefixes → Finds (slice_index_or prefixes k prefix).digits (slice_index_or found k one)
-
 -- a list for each prefix: the ids that begin with it
 abbrev pub AreMatchesOfEach : {A : Type 0} → StoreView → List KindDigits → List (Vec ObjectId A) → Type 0
-AreMatchesOfEach view prefixes found = AreFoundOfEach (λ digits ids. AreMatches view digits ids.items) prefixes found
+AreMatchesOfEach {A} view prefixes found = AllZip (λ (prefix : KindDigits) (ids : Vec ObjectId A). AreMatches view prefix.digits ids.items) prefixes found
 
 -- what was found for some of the prefixes is more than `most`; what counts for the others is nothing
 pub record HaveMore {Found : Type 0} (Finds : List ℕ → Found → Type 0) (size : Found → ℕ) (most : ℕ) (prefixes : List KindDigits) : Type 0 where
   pub some : List Found
-  pub each : AreFoundOfEach (λ digits one. Finds digits one ⊎ (size one ≡ 0)) prefixes some
+  pub each : AllZip (λ (prefix : KindDigits) (one : Found). Finds prefix.digits one ⊎ (size one ≡ 0)) prefixes some
   pub more : most < sum_by size some
 
 -- more than `most` ids begin with some of the prefixes
@@ -242,26 +202,12 @@ IsOfOne Fails prefixes error = (prefix : KindDigits) × Contains prefixes prefix
 abbrev pub IsFaultOfOne : StoreView → List KindDigits → Error → Type 0
 IsFaultOfOne view prefixes error = IsOfOne (λ digits. IsStoreFault view (first_byte_of digits)) prefixes error
 
--- the offset of the first of the names that are counted that is the id, or none if it is none of them
-abbrev pub IsOffsetOf : Kind → List ℕ → List ℕ → Option ℕ → Type 0
-IsOffsetOf kind bytes id None = (at : ℕ) → ¬ IsFirstCounted kind bytes id at
-IsOffsetOf kind bytes id (Some offset) = (at : ℕ) × IsFirstCounted kind bytes id at × (offset ≡ offset_in kind bytes at)
-
--- these are the locations of an id in the first n packs, in order: one at the offset that the pack's index has, if its bytes are known
-unfoldable pub ArePacked : StoreView → List ℕ → ℕ → List Location → Type 0
-ArePacked view id zero locations = locations ≡ []
-ArePacked view id (suc n) locations =
-    (before : List Location) × (offset : Option ℕ) × ArePacked view id n before
-    × ((pack : LazyIndex) → IfKnown (λ bytes. IsOffsetOf view.kind bytes id offset) (slice_index_or view.packs n pack))
-    × (locations ≡ before ++ packed_at n offset)
-
--- all locations of the object of these digits
+-- all locations of the object of these digits: one at the offset that the index of each pack has, if its bytes are known, and the last one if it is loose
 pub record AreLocations (view : StoreView) (digits : List ℕ) (locations : List Location) : Type 0 where
   pub small : first_byte_of digits < 256
-  pub packed : List Location
-  pub are_packed : ArePacked view digits (length view.packs) packed
-  pub all : locations ≡ packed ++ loose_at digits view.loose
-  pub sound : HaveLocations view digits
+  pub offsets : List (Option ℕ)
+  pub read : AllZip (λ (pack : LazyIndex) (offset : Option ℕ). IfKnown (λ bytes. IsOffsetOf view.kind bytes digits offset) pack) view.packs offsets
+  pub all : locations ≡ in_packs 0 offsets ++ loose_at digits view.loose
 
 -- the places of n positions: the numbers below n in an order, each after a key
 pub record ArePlaces (n : ℕ) (places : List (ℕ × ℕ)) : Type 0 where

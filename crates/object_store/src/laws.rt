@@ -2,7 +2,8 @@
 
 ghost use Rattle.std.specs.Prelude.{◌↔◌, ◌≡◌, ℕ, ◌<◌, ◌≤◌, Contains, List, [], length, slice_index_or};
 ghost use Rattle.id_lookup.specs.Words.{IsIndexOf, Kind, first_byte_of, matches};
-ghost use Rattle.object_store.specs.Stores.{AreIdsRead, AreLocations, HasObjectAt, Holds, IsIndexReadOrMemory, IsLocateFault, IsNameIn, IsStoreFault, StoreView, locations_of};
+ghost use Rattle.pack_index.specs.Format.{IsFirstIndexOf, names_in, offset_in};
+ghost use Rattle.object_store.specs.Stores.{AreIdsRead, AreLocations, Holds, IsIndexReadOrMemory, IsLocateFault, IsNameIn, IsStoreFault, StoreView, locations_of};
 ghost use Rattle.object_store.specs.declared.error.Error.{Error as StoreError};
 ghost use Rattle.object_store.specs.declared.parts.Location.{Location};
 ghost use Rattle.object_store.specs.declared.parts.Location.TheVariants.{Packed, Loose};
@@ -22,8 +23,10 @@ pub fn failures()
 /// and it is a loose object if and only if its id is one of the loose ids.
 pub fn locations()
     ensures packed { (kind : Kind) (id : List ℕ) (indexes loose_ids : List (List ℕ))
-        (pack offset : ℕ) → Contains (locations_of kind id indexes loose_ids) (Packed pack offset)
-        ↔ ((pack < length indexes) × HasObjectAt kind (slice_index_or indexes pack []) id offset) }
+        (pack offset : ℕ) → let bytes = slice_index_or indexes pack [] in
+        Contains (locations_of kind id indexes loose_ids) (Packed pack offset)
+        ↔ ((pack < length indexes) × (at : ℕ) × IsFirstIndexOf (names_in kind bytes) id at
+        × (offset ≡ offset_in kind bytes at)) }
     ensures loose { (kind : Kind) (id : List ℕ) (indexes loose_ids : List (List ℕ))
         → Contains (locations_of kind id indexes loose_ids) Loose ↔ Contains loose_ids id }
 {}

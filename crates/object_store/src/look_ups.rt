@@ -1,10 +1,10 @@
 //! Look-ups of a prefix, of several prefixes in their order, and of all ids with a first byte.
 
 ghost use Rattle.std.specs.Prelude.{◌≡◌, ◌-◌, ◌<◌, ◌≤◌, ℕ, All, IfErr, IfNone, IfOk, IfSome, List, SomeIff, length, map, slice_index_or};
-ghost use Rattle.std.specs.List.{sum_by};
-ghost use Rattle.id_lookup.specs.Words.{IsIndex, IsShortestNameFrom, first_byte_of, hex_len_of, id_digits, id_kind};
+ghost use Rattle.std.specs.List.{AllZip, sum_by};
+ghost use Rattle.id_lookup.specs.Words.{IsIndex, IsShortestNameFrom, KindDigits, first_byte_of, hex_len_of, id_digits, id_kind};
 ghost use Rattle.object_store.specs.Several.{AreLocated, AreNamed, IsAbbreviated, IsLocationsFault, id_count, location_count};
-ghost use Rattle.object_store.specs.Stores.{AreFoundOfEach, AreMatches, ArePlaces, CanLookUp, HaveMore, IsListed, IsOfKind, IsOfOne, IsStoreFault, StoreView};
+ghost use Rattle.object_store.specs.Stores.{AreMatches, ArePlaces, CanLookUp, HaveMore, IsListed, IsOfKind, IsOfOne, IsStoreFault, StoreView};
 ghost use Rattle.object_store.specs.declared.error.Error.{Error as StoreError};
 
 use crate::error::Error;
@@ -75,8 +75,9 @@ pub fn look_up_each<S: Store, A: Allocator + Copy, L: LookUp<S, A>>(
     requires can { All (CanLookUp (S.view store.old)) prefixes.now }
     requires fits { L.fits look_up.now (S.view store.old) }
     ensures same { store.new ≡ store.old }
-    ensures found { IfOk result (λ found. IfSome found (λ found. AreFoundOfEach
-        (L.finds look_up.now store.old) prefixes.now found.items)) }
+    ensures found { IfOk result (λ found. IfSome found (λ found. AllZip
+        (λ (prefix : KindDigits) one. L.finds look_up.now store.old prefix.digits one)
+        prefixes.now found.items)) }
     ensures several { IfOk result (λ found. IfNone found (1 < length prefixes.now)) }
     ensures more { IfOk result (λ found. IfNone found (HaveMore
         (L.finds look_up.now store.old) L.size most prefixes.now)) }
@@ -103,8 +104,9 @@ fn look_up_in_order<S: Store, A: Allocator + Copy, L: LookUp<S, A>>(
     requires can { All (CanLookUp (S.view parts.old.now)) prefixes.now }
     requires fits { L.fits look_up.now (S.view parts.old.now) }
     ensures store { parts.new ≡ parts.old }
-    ensures found { IfOk result (λ found. IfSome found (λ found. AreFoundOfEach
-        (L.finds look_up.now parts.old.now) prefixes.now found.items)) }
+    ensures found { IfOk result (λ found. IfSome found (λ found. AllZip
+        (λ (prefix : KindDigits) one. L.finds look_up.now parts.old.now prefix.digits one)
+        prefixes.now found.items)) }
     ensures several { IfOk result (λ found. IfNone found (1 < length prefixes.now)) }
     ensures more { IfOk result (λ found. IfNone found (HaveMore
         (L.finds look_up.now parts.old.now) L.size most prefixes.now)) }

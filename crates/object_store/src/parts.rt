@@ -3,8 +3,8 @@
 ghost use Rattle.std.specs.Prelude.{◌≡◌, ◌⊎◌, ◌≤◌, ◌<◌, ◌/◌, ◌%◌, ◌++◌, [], ◌∷◌, All, IfErr, IfOk, IsTrue, OnOk, Some, flat_map, length, map, nat_eq, slice_get, take, true};
 ghost use Rattle.std.specs.List.{starts_with};
 ghost use Rattle.id_lookup.specs.Words.{IsIndex, IsShortestNameFrom, first_byte_of, hex_len_of, id_digits, id_kind, matches};
-ghost use Rattle.object_store.specs.Several.{AreLocated, IsAbbreviated, IsAbbreviatedAt, IsAbbreviationOfKind, IsLocationsFault, limited_to};
-ghost use Rattle.object_store.specs.Stores.{AreLocations, AreMatches, ArePacked, AreParts, CanLookUp, HaveBuckets, HaveLocations, IsAbbreviationOf, IsListed, IsLocateFault, IsOfKind, IsStoreFault};
+ghost use Rattle.object_store.specs.Several.{AreLocated, IsAbbreviated, IsAbbreviatedAs, IsLocationsFault, limited_to};
+ghost use Rattle.object_store.specs.Stores.{AreLocations, AreMatches, AreParts, CanLookUp, HaveBuckets, IsAbbreviationOf, IsListed, IsLocateFault, IsOfKind, IsStoreFault};
 ghost use Rattle.pack_index.specs.Lazy.{BucketNames};
 
 use crate::error::Error;
@@ -483,26 +483,6 @@ fn locate_in<S: Store, A: Allocator + Copy>(
         (id_digits id.now) locations.items) }
     ensures err { IfErr result (IsLocateFault (S.view store.now) (id_digits id.now)) }
 {
-    let mut locations = packed_locations(alloc, store, buckets, id)?;
-    if store.loose().contains(id) {
-        push(&mut locations, Location::Loose)?;
-    }
-    Ok(locations)
-}
-
-// The locations of an object in packs, in order.
-fn packed_locations<S: Store, A: Allocator + Copy>(
-    alloc: A,
-    store: &S,
-    buckets: &[Bucket<A>],
-    id: &ObjectId,
-) -> Result<Vec<Location, A>, Error>
-    requires { AreParts (S.view store.now) (id_digits id.now) buckets.now }
-    ensures locations { IfOk result (λ locations. ArePacked (S.view store.now) (id_digits id.now)
-        (length (S.view store.now).packs) locations.items) }
-    ensures sound { IfOk result (λ _. HaveLocations (S.view store.now) (id_digits id.now)) }
-    ensures err { IfErr result (IsLocateFault (S.view store.now) (id_digits id.now)) }
-{
     let mut locations = Vec::new(alloc);
     let packs = store.indexes();
     for pack in 0..packs.len() {
@@ -513,6 +493,9 @@ fn packed_locations<S: Store, A: Allocator + Copy>(
                 Err(error) => return Err(Error::of_index(store.index_path(pack)?, error)),
             }
         }
+    }
+    if store.loose().contains(id) {
+        push(&mut locations, Location::Loose)?;
     }
     Ok(locations)
 }
@@ -604,8 +587,8 @@ fn abbreviation_in(ids: &[ObjectId], prefix: &Prefix, least: usize) -> Abbreviat
     requires kinds { All (λ id. id_kind id ≡ prefix.now.kind) ids.now }
     requires enough { 4 ≤ least }
     requires fits { least ≤ hex_len_of prefix.now.kind }
-    ensures name { IsAbbreviatedAt least (map id_digits ids.now) prefix.now.digits result }
-    ensures kind { IsAbbreviationOfKind prefix.now.kind result }
+    ensures { IsAbbreviatedAs least prefix.now.kind (map id_digits ids.now)
+        (matches prefix.now.digits (map id_digits ids.now)) result }
 {
     // Its contract says how many digits the prefix has at most.
     let _hex_len = prefix.hex_len();

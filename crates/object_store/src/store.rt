@@ -21,8 +21,9 @@ use streams::ReadAt;
 /// ```
 pub trait Store {
     ghost use Rattle.std.specs.Prelude.{◌≡◌, ◌<◌, ◌≤◌, [], All, IfErr, IfOk, length, slice_index_or, string_bytes};
-    ghost use Rattle.id_lookup.specs.Words.{hex_len_of};
-    ghost use Rattle.object_store.specs.Stores.{IsPartAt, IsPartFault, StoreView};
+    ghost use Rattle.id_lookup.specs.Words.{first_byte_of, hex_len_of};
+    ghost use Rattle.object_store.specs.Stores.{StoreView};
+    ghost use Rattle.pack_index.specs.Lazy.{IfKnown, IsBucketFault, IsPartOf, LazyIndex};
 
     /// What the bytes of a pack index are read from.
     type Source: ReadAt + Drop;
@@ -53,8 +54,12 @@ pub trait Store {
         requires fits { length prefix.now.digits ≤ hex_len_of (view self.old).kind }
         requires enough { 2 ≤ length prefix.now.digits }
         ensures same { self.new ≡ self.old }
-        ensures part { IfOk result (IsPartAt (view self.old) at prefix.now.digits) }
-        ensures err { IfErr result (IsPartFault (view self.old) at prefix.now.digits) };
+        ensures part { IfOk result (λ part. (default : LazyIndex)
+            → IsPartOf (slice_index_or (view self.old).packs at default) prefix.now.digits part) }
+        ensures err { IfErr result (λ e. (default : LazyIndex)
+            → let pack = slice_index_or (view self.old).packs at default in
+            IfKnown (λ bytes. IsBucketFault pack.can_fail pack.kind bytes
+            (first_byte_of prefix.now.digits) e) pack) };
 
     /// The path of the pack index at a position among [`Store::indexes`], from 0, for errors.
     fn index_path(&self, at: usize) -> Result<String, AllocError>

@@ -4,6 +4,7 @@ use Rattle.object_store.specs.Several.{AreNamed}
 use Rattle.object_store.specs.Stores.{HaveBuckets, StoreView}
 use Rattle.pack_index.specs.Format.{Each}
 use Rattle.object_store.specs.declared.parts.NamedId.{NamedId}
+use Rattle.object_store.proofs.PartNames.{have_read}
 use Rattle.packtool_commands.specs.Stores.{AreNamedBelow, HasNamedAtMost, HasNamedBelow, name_line}
 use Rattle.streams.specs.Streams.{AppendsAtMost, AppendsPart}
 use Rattle.streams.proofs.WritingLemmas.{AppendsPart-after, part_written}
@@ -26,7 +27,7 @@ unfolding AreNamedBelow
 below_sound zero least Sees named are k low = absurd (omega (arith, low))
 below_sound (suc n) least Sees named are k low = elim (cases_lt k n) [
   | inl less ↦ below_sound n least Sees are.0 are.3 k less
-  | inr from ↦ let same : n ≡ k = omega (arith, low, from) in (are.2, are.4, subst (HaveBuckets are.2) same are.5.ids_read.are_read.sound)
+  | inr from ↦ let same : n ≡ k = omega (arith, low, from) in (are.2, are.4, subst (HaveBuckets are.2) same (have_read are.2 n are.5.read are.5.ids_read))
 ]
 
 some_of : {X : Type 0} (xs ys : List X) → (xs ++ ys ≢ []) ↔ ((xs ≢ []) ⊎ (ys ≢ []))

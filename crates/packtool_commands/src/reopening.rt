@@ -2,7 +2,9 @@
 
 ghost use Rattle.std.specs.Prelude.{◌≡◌, ◌≢◌, ◌<◌, All, IfErr, IfOk, IsErrOf, length};
 ghost use Rattle.std.specs.Fn.{FnOnceReturnsAtMut};
-ghost use Rattle.object_store.specs.Stores.{AreFoundOfEach, CanLookUp, HaveMore, IsOfOne, IsReopened, StoreView};
+ghost use Rattle.std.specs.List.{AllZip};
+ghost use Rattle.id_lookup.specs.Words.{KindDigits};
+ghost use Rattle.object_store.specs.Stores.{CanLookUp, HaveMore, IsOfOne, IsReopened, StoreView};
 ghost use Rattle.packtool_commands.specs.Stores.{AreListed, IsFaultOf, prefixes_of};
 ghost use Rattle.packtool_commands.specs.declared.error.StoreError.{StoreError};
 ghost use Rattle.streams.specs.Streams.{lines_of};
@@ -56,7 +58,8 @@ pub(crate) fn look_up_lines<S: Reopen, A: Allocator + Copy, L: LookUp<S, A>>(
         → L.fits look_up.now seen }
     ensures reopened { IsReopened (S.may_have store.old) (S.may_have store.new)
         (S.view store.old) (S.view store.new) }
-    ensures found { IfOk result (λ found. AreFoundOfEach (L.finds look_up.now store.new)
+    ensures found { IfOk result (λ found. AllZip
+        (λ (prefix : KindDigits) one. L.finds look_up.now store.new prefix.digits one)
         (prefixes_of (S.view store.new).kind (lines_of lines.now.text.now)) found.items) }
     ensures refused { IfErr result (IsFaultOf (IsOfOne (L.fails look_up.now (S.view store.new))
         lines.now.prefixes.items)) }

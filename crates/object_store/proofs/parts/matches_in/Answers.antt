@@ -1,8 +1,7 @@
-use Rattle.gix_hash.proofs.Std.{◌≡◌, ◌∙◌, ◌++◌, List, ℕ, ap, map, refl, subst, sym, arith, nat_eq, All, flat_map, starts_with}
+use Rattle.gix_hash.proofs.Std.{◌≡◌, ◌∙◌, ◌++◌, List, ℕ, ap, map, subst, sym, arith, All, flat_map}
 use Rattle.id_lookup.specs.Words.{Index, IsIndexOf, Kind, ObjectId, id_digits, id_kind, matches}
 use Rattle.pack_index.specs.Lazy.{BucketNames}
-use Rattle.object_store.specs.Stores.{ids_in}
-use Rattle.object_store.proofs.PartNames.{are_of_kind, gathered}
+use Rattle.object_store.proofs.PartNames.{are_of_kind}
 use Rattle.object_store.proofs.parts.matches_in.Goals as goal
 
 pub push_packed-requires-clause-kinds : goal.push_packed-requires-clause-kinds
@@ -19,7 +18,7 @@ returns g c =
     let view = g.S.Store.view c.args.store.now in
     let digits = c.args.prefix.now.digits in
     let buckets = c.args.buckets.now in
-    let names = c.requires.buckets.names in
+    let read = c.requires.buckets.read in
     let kinds : All (λ (id : ObjectId). id_kind id ≡ view.kind) c.push_all.new.ids.items =
     subst (λ (k : Kind). All (λ (id : ObjectId). id_kind id ≡ k) c.push_all.new.ids.items) c.object_hash-kind.ensures
     (c.in_ok-push_all.ensures.kinds (c.in_ok-push_packed.ensures.kinds
@@ -28,11 +27,10 @@ returns g c =
     c.in_ok-push_packed.ensures.digits ∙ ap (λ (ids : List ObjectId). map id_digits ids ++ flat_map (λ (b : BucketNames). matches digits b.names) buckets) c.new-ids.ensures.items in
     let loose : map id_digits c.beginning_with.result.now ≡ matches digits view.loose =
     c.beginning_with.ensures.ids ∙ ap (λ (table : Index). matches digits table.ids) c.loose.ensures in
-    let all : map id_digits c.push_all.new.ids.items ≡ matches digits (ids_in view names) =
-    c.in_ok-push_all.ensures.digits ∙ (λ i. front i ++ loose i) ∙ gathered (λ id. starts_with nat_eq id digits) buckets names view.loose c.requires.buckets.matched in
+    let all : map id_digits c.push_all.new.ids.items ≡ matches digits read = c.in_ok-push_all.ensures.digits ∙ (λ i. front i ++ loose i) ∙ c.requires.buckets.matched in
     record {
-      read = ids_in view names;
-      ids_read = record { names = names; are_read = c.requires.buckets.read; all = refl };
+      read = read;
+      ids_read = c.requires.buckets.ids_read;
       index = subst (λ (ids : List (List ℕ)). IsIndexOf view.kind ids (map id_digits c.sort_unique.new.ids.items)) all (c.sort_unique.ensures.index view.kind kinds);
       kinds = c.sort_unique.ensures.kinds view.kind kinds;
     }

@@ -1,6 +1,6 @@
 use Rattle.gix_hash.proofs.Std.{List, map, subst, err_from_is_err_and}
-use Rattle.id_lookup.specs.Words.{Kind, ObjectId, id_digits}
-use Rattle.object_store.specs.Several.{IsAbbreviatedAt, IsAbbreviationOfKind}
+use Rattle.id_lookup.specs.Words.{Kind, ObjectId, id_digits, matches}
+use Rattle.object_store.specs.Several.{IsAbbreviatedAs}
 use Rattle.object_store.proofs.Abbreviated.{abbreviated, front_byte}
 use Rattle.object_store.proofs.parts.Parts.abbreviate_prefix.Goals as goal
 
@@ -14,7 +14,7 @@ pub returns-clause-name : goal.returns-clause-name
 returns-clause-name g c =
     let digits = c.args.prefix.now.digits in
     let a = c.abbreviation_in-found.result in
+    let Found : Kind → List ObjectId → Type 0 = λ kind ids. IsAbbreviatedAs c.args.least kind (map id_digits ids) (matches digits (map id_digits ids)) a in
     abbreviated c.args.least (g.S.Store.view c.args.self.now.now) digits c.front_of.result.digits c.in_ok-front.front.ids.items a c.front_of.ensures.digits c.requires.enough c.requires.can.enough
     c.in_ok-front.ensures.matches
-    (subst (λ (ids : List ObjectId). IsAbbreviatedAt c.args.least (map id_digits ids) digits a) c.deref.ensures.value c.abbreviation_in-found.ensures.name)
-    (subst (λ (k : Kind). IsAbbreviationOfKind k a) c.requires.can.kind c.abbreviation_in-found.ensures.kind)
+    (subst (λ (k : Kind). Found k c.in_ok-front.front.ids.items) c.requires.can.kind (subst (Found c.args.prefix.now.kind) c.deref.ensures.value c.abbreviation_in-found.ensures))
