@@ -1,23 +1,34 @@
 -- The status of what was asked of a store that is kept.
-use Rattle.std.specs.Prelude.{IsOkAnd, IsSomeAnd}
-use Rattle.gix_hash.proofs.Std.{[], ◌++◌, ◌↔◌, ◌∷◌, ◌≡◌, ℕ, Bool, Err, IfOk, IsTrue, List, Ok, OnOk, Option, Result, Some, arith, false, max, refl, subst, sym, true}
+use Rattle.std.specs.Prelude.{IsSomeAnd, if◌then◌else◌, is_none}
+use Rattle.gix_hash.proofs.Std.{[], ◌++◌, ◌↔◌, ◌∷◌, ◌≡◌, ℕ, Bool, IfOk, IsTrue, List, None, Ok, Option, Result, Some, arith, false, is_some, max, not, refl, subst, sym, true}
 use Rattle.directory_store.specs.declared.error.Error.{Error}
 use Rattle.packtool.specs.Answers.{IsStatus}
 use Rattle.packtool.specs.Verdicts.{AreDone}
 
 -- what a call found over a store was found in the store that is kept
-pub kept-found : {S E : Type 0} (P : S → Type 0) (Is Has : Bool → Type 0) (store : S) (kept : Option S) (ran : Result Bool E)
-    → IsOkAnd ran Is → kept ≡ Some store → IfOk ran Has → ((any : Bool) → Is any → Has any → P store) → IsSomeAnd kept P
-kept-found P Is Has store kept (Err error) is same has both = absurd is
-kept-found P Is Has store kept (Ok any) is same has both = subst (λ k. IsSomeAnd k P) (sym same) (both any is has)
+pub kept-found : {S E T : Type 0} (P : S → Type 0) (Has : T → Type 0) (store : S) (kept : Option S) (ran : Result T E) (found : T)
+    → ran ≡ Ok found → kept ≡ Some store → IfOk ran Has → (Has found → P store) → IsSomeAnd kept P
+kept-found P Has store kept ran found is same has both = subst (λ k. IsSomeAnd k P) (sym same) (both (subst (λ r. IfOk r Has) is has))
 
--- the same for the status that is returned
-pub kept-answer : {S E F : Type 0} (P : ℕ → S → Type 0) (Is : Bool → ℕ → Type 0) (Has : Bool → Type 0) (store : S) (kept : Option S) (ran : Result Bool E)
-    (result : Result ℕ F) → IfOk result (λ status. IsOkAnd ran (λ any. Is any status)) → OnOk result (kept ≡ Some store) → IfOk ran Has
-    → ((any : Bool) (status : ℕ) → Is any status → Has any → P status store) → IfOk result (λ status. IsSomeAnd kept (P status))
-kept-answer P Is Has store kept ran (Err failure) is same has both = tt
-kept-answer P Is Has store kept ran (Ok status) is same has both =
-    kept-found (P status) (λ any. Is any status) Has store kept ran is same has (λ any. both any status)
+-- the status, by whether the store is whole
+pub status-is : (skipped : List Error) (is_whole any : Bool) (status : ℕ) → IsTrue is_whole ↔ (skipped ≡ [])
+    → status ≡ (if is_whole then (if any then 0 else 1) else 2) → IsStatus skipped any status
+status-is skipped true any status whole is = (λ _. is, λ some. absurd (some (whole.0 refl)))
+status-is [] false any status whole is = absurd (cc (whole.1 refl))
+status-is (error ∷ skipped) false any status whole is = (λ none. absurd (cc none), λ _. is)
+
+-- whether there is no value
+none-is : {X : Type 0} (o : Option X) (none : Bool) → is_some o ≡ not none → none ≡ is_none o
+none-is None true same = refl
+none-is None false same = absurd (cc same)
+none-is (Some x) true same = absurd (cc same)
+none-is (Some x) false same = refl
+
+-- the status, where what was asked for was found if no line lacks an answer
+pub status-of : {X : Type 0} (skipped : List Error) (is_whole none : Bool) (lacks : Option X) (status : ℕ) → IsTrue is_whole ↔ (skipped ≡ [])
+    → is_some lacks ≡ not none → status ≡ (if is_whole then (if none then 0 else 1) else 2) → IsStatus skipped (is_none lacks) status
+status-of skipped is_whole none lacks status whole same is =
+    subst (λ any. IsStatus skipped any status) (none-is lacks none same) (status-is skipped is_whole none status whole is)
 
 -- the status, if nothing was skipped before
 pub status-whole : (before skipped : List Error) (was_whole any : Bool) (status : ℕ) → IsTrue was_whole ↔ (before ≡ []) → was_whole ≡ true

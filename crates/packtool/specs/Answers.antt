@@ -4,26 +4,21 @@ use Rattle.object_store.specs.Stores.{IsReopened, IsSeen, StoreView}
 use Rattle.packtool.specs.WholeLines.{AreWhole}
 use Rattle.packtool.specs.declared.arguments.Question.{Question}
 use Rattle.packtool.specs.declared.arguments.Question.TheVariants.{Find, Locate, Names}
-use Rattle.packtool_commands.specs.Stores.{HasAnsweredMatches, HasLocated, HasLocatedEach, HasNamedBelow, HasNamedEach, HasPrinted}
+use Rattle.packtool_commands.specs.Stores.{HasAnsweredMatches, HasLocatedEach, HasNamedBelow, HasNamedEach}
 use Rattle.packtool_commands.specs.declared.printing.Answers.{Answers}
+use Rattle.packtool_commands.specs.declared.printing.NoAnswer.{NoAnswer}
 use Rattle.directory_store.specs.declared.error.Error.{Error}
 
 -- the status by what was skipped, and by whether what was asked for was found: 2 if something was skipped, and else 0 or 1
 abbrev pub IsStatus : List Error → Bool → ℕ → Type 0
 IsStatus skipped any status = (skipped ≡ [] → status ≡ (if any then 0 else 1)) × (skipped ≢ [] → status ≡ 2)
 
--- what a question finds for a prefix was written, and whether an id begins with it is this; A is the type of the allocator of what was found
-abbrev pub HasAnsweredPrefix : (A : Type 0) → Question → (ℕ → List ℕ) → (List ℕ → List (List ℕ)) → StoreView → List ℕ → Bool → Option (List ℕ) → Option (List ℕ)
-    → Type 0
-HasAnsweredPrefix A Locate pack_path loose_paths view digits any old new = HasLocated A pack_path loose_paths view digits any old new
-HasAnsweredPrefix A _ pack_path loose_paths view digits any old new = HasPrinted view digits any old new
-
--- what a question finds for lines was written, and whether each finds what is asked for is this
-abbrev pub HasAnsweredLines : (A : Type 0) → Question → Answers → ℕ → (ℕ → List ℕ) → (List ℕ → List (List ℕ)) → StoreView → List (List ℕ) → Bool
-    → Option (List ℕ) → Option (List ℕ) → Type 0
-HasAnsweredLines A Find answers least pack_path loose_paths view lines all old new = HasAnsweredMatches A answers view lines all old new
-HasAnsweredLines A Locate answers least pack_path loose_paths view lines all old new = HasLocatedEach A answers pack_path loose_paths view lines all old new
-HasAnsweredLines A Names answers least pack_path loose_paths view lines all old new = HasNamedEach least view lines all old new
+-- what a question finds for lines was written, and this is why the first that has no answer has none; A is the type of the allocator of what was found
+abbrev pub HasAnsweredLines : (A : Type 0) → Question → Answers → ℕ → (ℕ → List ℕ) → (List ℕ → List (List ℕ)) → StoreView → List (List ℕ)
+    → Option NoAnswer → Option (List ℕ) → Option (List ℕ) → Type 0
+HasAnsweredLines A Find answers least pack_path loose_paths view lines why old new = HasAnsweredMatches A answers view lines why old new
+HasAnsweredLines A Locate answers least pack_path loose_paths view lines why old new = HasLocatedEach A answers pack_path loose_paths view lines why old new
+HasAnsweredLines A Names answers least pack_path loose_paths view lines why old new = HasNamedEach least view lines why old new
 
 -- a text was answered in n parts of whole lines, one after the other, and the worst of their statuses is this: `IsAnswer` says what was written for a part, by
 -- what answered it as that was then, which is `last` for the last part

@@ -5,7 +5,7 @@ use Rattle.clap.specs.declared.parser.matches.Found.{Found}
 use Rattle.packtool.specs.declared.arguments.Action.{Action}
 use Rattle.packtool.specs.declared.arguments.Action.TheVariants as actions
 use Rattle.packtool.specs.declared.arguments.Ask.{Ask}
-use Rattle.packtool.specs.declared.arguments.Ask.TheVariants.{All, Lines, One, Prefix}
+use Rattle.packtool.specs.declared.arguments.Ask.TheVariants.{All, Lines, Prefix}
 use Rattle.packtool.specs.declared.arguments.FileCommand.TheVariants.{Check, Show}
 use Rattle.packtool.specs.declared.arguments.Question.TheVariants.{Find, Locate, Names}
 use Rattle.packtool.specs.declared.arguments.Request.{Request}
@@ -33,8 +33,8 @@ IsGiven found id given =
 
 -- what a question is about, by the prefix that is among the arguments, if one is, and by whether `--one` and `--stdin` are
 abbrev pub IsAbout : Option (List ℕ) → Bool → Bool → Ask → Type 0
-IsAbout (Some text) true stdin (One prefix) = prefix.now ≡ text
-IsAbout (Some text) false stdin (Prefix prefix) = prefix.now ≡ text
+IsAbout (Some text) true stdin (Prefix prefix answers) = (prefix.now ≡ text) × (answers ≡ answers_of.BareOne)
+IsAbout (Some text) false stdin (Prefix prefix answers) = (prefix.now ≡ text) × (answers ≡ answers_of.Bare)
 IsAbout None one false All = Unit {0}
 IsAbout None true true (Lines answers) = answers ≡ answers_of.One
 IsAbout None false true (Lines answers) = answers ≡ answers_of.All

@@ -20,12 +20,12 @@ IsRight Alone = Unit {0}
 IsRight (Paired pairing) = pairing ≡ Same
 
 -- the verdict on the bytes of a pack index, of a given kind or of either: why they are not one; or that they are one, and its relation to the pack beside it
-abbrev pub IsOfIndex : Option Kind → List ℕ → Verdict → Type 0
-IsOfIndex kind bytes Skipped = ⊥
-IsOfIndex kind bytes (Ends ending) = ⊥
-IsOfIndex kind bytes (Faulty error) = IsRefusalAs kind bytes error
-IsOfIndex kind bytes Alone = (file : IndexFile) × IsOpenedAs kind bytes file
-IsOfIndex kind bytes (Paired pairing) = (file : IndexFile) × IsOpenedAs kind bytes file
+abbrev pub IsVerdictOn : Option Kind → List ℕ → Verdict → Type 0
+IsVerdictOn kind bytes Skipped = ⊥
+IsVerdictOn kind bytes (Ends ending) = ⊥
+IsVerdictOn kind bytes (Faulty error) = IsRefusalAs kind bytes error
+IsVerdictOn kind bytes Alone = (file : IndexFile) × IsOpenedAs kind bytes file
+IsVerdictOn kind bytes (Paired pairing) = (file : IndexFile) × IsOpenedAs kind bytes file
 
 -- what is printed after the name of a file
 abbrev pub IsLineEnd : Verdict → List ℕ → Type 0
@@ -36,7 +36,7 @@ IsLineEnd Alone text = text ≡ codes ": OK" ++ 10 ∷ []
 IsLineEnd (Paired pairing) text = text ≡ pairing_verdict pairing
 
 -- the line of a file was written
-pub record IsPrinted (said : Verdict) (path : List ℕ) (old new : Option (List ℕ)) : Type 0 where
+pub record HasWrittenVerdict (said : Verdict) (path : List ℕ) (old new : Option (List ℕ)) : Type 0 where
   pub end : List ℕ
   pub is_end : IsLineEnd said end
   pub written : Appends old new (file_line path end)
@@ -45,7 +45,7 @@ pub record IsPrinted (said : Verdict) (path : List ℕ) (old new : Option (List 
 -- not; the line of a checked file was written, unless the output failed
 abbrev pub IsRead : FileCommand → List ℕ → Bool → ℕ → Option (List ℕ) → Option (List ℕ) → Type 0
 IsRead Show path failed status old new = status ≢ 2 → failed ≡ false
-IsRead Check path failed status old new = status ≢ 2 → failed ≡ false → (said : Verdict) × ((status ≡ 0) ↔ IsRight said) × IsPrinted said path old new
+IsRead Check path failed status old new = status ≢ 2 → failed ≡ false → (said : Verdict) × ((status ≡ 0) ↔ IsRight said) × HasWrittenVerdict said path old new
 
 -- things are done one after the other, each with a status, and the worst of these is this; T is what they change
 abbrev pub AreDone : {X T : Type 0} → (X → ℕ → T → T → Type 0) → List X → ℕ → T → T → Type 0

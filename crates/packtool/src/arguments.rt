@@ -50,10 +50,8 @@ pub enum Question {
 pub enum Ask<'a> {
     /// All ids, which only `abbreviate` takes.
     All,
-    /// A prefix, which is this text.
-    Prefix(&'a str),
-    /// A prefix, which is this text, and of which the only id is wanted.
-    One(&'a str),
+    /// A prefix, which is this text, and what is printed for it.
+    Prefix(&'a str, Answers),
     /// Each line of standard input, and what is printed for it.
     Lines(Answers),
 }
@@ -336,8 +334,8 @@ fn ask_of<'a>(prefix: Option<&'a str>, one: bool, stdin: bool) -> Ask<'a>
     ensures { IsAbout (option_map (λ text. text.now) prefix.entry) one stdin result }
 {
     match prefix {
-        Some(prefix) if one => Ask::One(prefix),
-        Some(prefix) => Ask::Prefix(prefix),
+        Some(prefix) if one => Ask::Prefix(prefix, Answers::BareOne),
+        Some(prefix) => Ask::Prefix(prefix, Answers::Bare),
         None if !stdin => Ask::All,
         None if one => Ask::Lines(Answers::One),
         None => Ask::Lines(Answers::All),

@@ -5,7 +5,7 @@ ghost use Rattle.std.specs.Io.{StartsWith};
 ghost use Rattle.std.specs.Option.{ForSome};
 ghost use Rattle.pack_index.specs.Format.{names_start, num_objects};
 ghost use Rattle.packtool.specs.Failures.{IsAt};
-ghost use Rattle.packtool.specs.Verdicts.{IsOfIndex, IsPrinted, IsRight};
+ghost use Rattle.packtool.specs.Verdicts.{HasWrittenVerdict, IsRight, IsVerdictOn};
 ghost use Rattle.packtool.specs.declared.failure.FileWhy.{FileWhy};
 ghost use Rattle.packtool.specs.declared.files.Verdict.{Verdict};
 ghost use Rattle.streams.specs.Devices.{plain_error, plain_failed, plain_inner};
@@ -114,7 +114,7 @@ pub fn check<'a, W: io::Write>(
     out: &mut Plain<W>,
 ) -> Result<bool, Failure<'a>>
     ensures { IfOk result (λ is_right. plain_failed out.new ≡ false → (said : Verdict)
-        × (IsTrue is_right ↔ IsRight said) × IsPrinted said path.now
+        × (IsTrue is_right ↔ IsRight said) × HasWrittenVerdict said path.now
         (W.contents (plain_inner out.old)) (W.contents (plain_inner out.new))) }
 {
     let verdict = if path == "-" {
@@ -147,7 +147,7 @@ fn write_verdict<'a, W: io::Write>(
     out: &mut Plain<W>,
 ) -> Result<(), Failure<'a>>
     requires { plain_failed out.old ≡ false }
-    ensures { OnOk result (plain_failed out.new ≡ false → IsPrinted verdict.now path.now
+    ensures { OnOk result (plain_failed out.new ≡ false → HasWrittenVerdict verdict.now path.now
         (W.contents (plain_inner out.old)) (W.contents (plain_inner out.new))) }
 {
     let _ = match verdict {
@@ -249,7 +249,7 @@ fn verdict_of_index<'a>(
     bytes: &[u8],
     kind: Option<Kind>,
 ) -> Result<Verdict, Failure<'a>>
-    ensures { IfOk result (IsOfIndex kind bytes.now) }
+    ensures { IfOk result (IsVerdictOn kind bytes.now) }
 {
     let index = match open_index(bytes, kind) {
         Ok(index) => index,

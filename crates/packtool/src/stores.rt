@@ -1,22 +1,22 @@
 //! Commands over a store.
 
-ghost use Rattle.std.specs.Prelude.{◌≡◌, ◌↔◌, ◌<◌, ◌≤◌, ◌++◌, ℕ, [], All, Bool, IfErr, IfOk, IsErrOf, IsOkAnd, IsSomeAnd, IsTrue, List, MatchOption, OnOk, Option, Some, false, if◌then◌else◌, length, max, nat_eq, string_bytes, true};
+ghost use Rattle.std.specs.Prelude.{◌≡◌, ◌≢◌, ◌↔◌, ◌<◌, ◌≤◌, ◌++◌, ℕ, [], All, Bool, IfErr, IfOk, IsErrOf, IsSomeAnd, IsTrue, List, None, Ok, OnErr, OnOk, Option, Some, false, if◌then◌else◌, is_none, length, max, string_bytes, true};
 ghost use Rattle.std.specs.Global.{Global};
-ghost use Rattle.std.specs.List.{ends_with};
 ghost use Rattle.std.specs.Option.{ForSome};
-ghost use Rattle.gix_hash.specs.Words.{KindDigits, first_byte_of, hex_len_of, hex_letter, prefix_read_in};
-ghost use Rattle.object_store.specs.Stores.{CanLookUp, IsReopened};
+ghost use Rattle.gix_hash.specs.Words.{KindDigits, first_byte_of, hex_len_of};
+ghost use Rattle.object_store.specs.Stores.{IsReopened};
 ghost use Rattle.directory_store.specs.Stores.{only_of};
-ghost use Rattle.packtool_commands.specs.Stores.{AreListed};
+ghost use Rattle.packtool_commands.specs.Stores.{AreListed, prefix_of};
 ghost use Rattle.packtool_commands.specs.declared.error.StoreError.{StoreError};
 ghost use Rattle.streams.specs.Devices.{plain_failed, plain_inner};
 ghost use Rattle.streams.specs.Streams.{lines_of};
-ghost use Rattle.packtool.specs.Answers.{HasAnsweredLines, HasAnsweredParts, HasAnsweredPrefix, HasNamedAll, IsStatus, checked_of};
+ghost use Rattle.packtool.specs.Answers.{HasAnsweredLines, HasAnsweredParts, HasNamedAll, IsStatus, checked_of};
 ghost use Rattle.packtool.specs.Failures.{failure_of};
 ghost use Rattle.packtool.specs.WholeLines.{AreWhole};
 ghost use Rattle.packtool.specs.declared.arguments.Question.{Question};
 ghost use Rattle.packtool.specs.declared.failure.Failure.{Failure};
 ghost use Rattle.packtool_commands.specs.declared.printing.Answers.{Answers};
+ghost use Rattle.packtool_commands.specs.declared.printing.NoAnswer.{NoAnswer};
 
 use crate::arguments::{Ask, Question, StoreRequest};
 use crate::failure::{Failure, skipped_mark};
@@ -29,21 +29,16 @@ use directory_store::{DirectoryStore, Error, LooseIds};
 use gix_hash::{Kind, Prefix};
 use object_store::{Reopen, Store, StorePaths};
 use packtool_commands::{
-    Answers, PrefixLines, StoreError, find, find_each, locate, locate_each, name_each, names,
+    Answers, NoAnswer, PrefixLines, StoreError, find_each, locate_each, name_each, names, prefix_in,
 };
 use repositories::{ObjectDirectory, find_objects};
 use std::alloc::{AllocError, Global};
 use std::io;
 use std::time::{SystemTime, UNIX_EPOCH};
-use streams::{Plain, Retrying, Sink, write_all};
+use streams::{Plain, Retrying, Sink};
 
 // The most ids or locations of several lines that are held at a time.
 const MAX_FOUND: usize = 1 << 16;
-
-// What is printed after a prefix of no id, and after one of several.
-const MISSING: &str = " missing";
-
-const AMBIGUOUS: &str = " ambiguous";
 
 /// Looks up what a request asks for, and returns the status. For the lines of standard input this
 /// is the worst of theirs.
@@ -58,9 +53,8 @@ pub fn answer<'a>(rt: &HostRuntime, request: &StoreRequest<'a>) -> Result<u8, Fa
         reported: Vec::new(rt.alloc()),
     };
     match request.ask {
-        Ask::All => asked.answer_once(None),
-        Ask::Prefix(text) => asked.answer_once(Some(text)),
-        Ask::One(text) => asked.answer_one(text),
+        Ask::All => asked.answer_all(),
+        Ask::Prefix(text, answers) => asked.answer_prefix(text, answers),
         Ask::Lines(answers) => asked.answer_input(answers),
     }
 }
@@ -70,24 +64,26 @@ trait AnswerLines {
     // What is asked, and the fewest digits of an abbreviation.
     ghost asked: { Self → Question × ℕ };
 
-    // What it wrote for lines, with the store that it keeps, and the status.
-    ghost is_answer: { Question × ℕ → Answers → Self → List ℕ → ℕ → Option (List ℕ)
-        → Option (List ℕ) → Type 0 };
+    // What it wrote for lines, with the store that it keeps; the status, and why the first line
+    // that has no answer has none.
+    ghost is_answer: { Question × ℕ → Answers → Self → List ℕ → ℕ × Option NoAnswer
+        → Option (List ℕ) → Option (List ℕ) → Type 0 };
 
-    // Writes what each of the lines finds in the store as it is now. If several find more than is
-    // held at a time, then nothing is written, and the error is `TooMany`.
+    // Writes what each of the lines finds in the store as it is now, and returns the status, and
+    // why the first line that has no answer has none. If several find more than is held at a time,
+    // then nothing is written, and the error is `TooMany`.
     fn write_for_lines<'a, W: io::Write>(
         &mut self,
         lines: &[u8],
         answers: Answers,
         out: &mut Plain<W>,
-    ) -> Result<u8, Failure<'a>>
+    ) -> Result<(u8, Option<NoAnswer>), Failure<'a>>
         requires { plain_failed out.old ≡ false }
         ensures same { asked self.new ≡ asked self.old }
         ensures output { OnOk result (plain_failed out.new ≡ false) }
         ensures untouched { IsErrOf result Failure.TooMany → out.new ≡ out.old }
-        ensures answered { IfOk result (λ status. is_answer (asked self.old) answers self.new
-            lines.now status (W.contents (plain_inner out.old))
+        ensures answered { IfOk result (λ ended. is_answer (asked self.old) answers self.new
+            lines.now ended (W.contents (plain_inner out.old))
             (W.contents (plain_inner out.new))) };
 }
 
@@ -103,7 +99,9 @@ fn answer_lines<'a, A: AnswerLines, W: io::Write>(
     requires whole { AreWhole lines.now }
     ensures output { OnOk result (plain_failed out.new ≡ false) }
     ensures answered { IfOk result (λ status. (n : ℕ) × HasAnsweredParts
-        (A.is_answer (A.asked asked.old) answers) n asked.new lines.now status
+        (λ asker part own before after. (why : Option NoAnswer)
+        × A.is_answer (A.asked asked.old) answers asker part (own, why) before after)
+        n asked.new lines.now status
         (W.contents (plain_inner out.old)) (W.contents (plain_inner out.new))) }
 {
     let mut rest = lines;
@@ -115,8 +113,8 @@ fn answer_lines<'a, A: AnswerLines, W: io::Write>(
         }
         let (part, after) = first_lines(rest, len);
         match asked.write_for_lines(part, answers, out) {
-            Ok(own) => {
-                status = status.max(own);
+            Ok(ended) => {
+                status = status.max(ended.0);
                 rest = after;
             }
             Err(Failure::TooMany) => len = part.len() / 2,
@@ -144,32 +142,22 @@ struct Asked<'r> {
 }
 
 impl Asked<'_> {
-    // Prints what is found for a prefix or, if none is given, all abbreviations.
-    fn answer_once<'a>(&mut self, prefix: Option<&'a str>) -> Result<u8, Failure<'a>> {
+    // Prints all abbreviations.
+    fn answer_all<'a>(&mut self) -> Result<u8, Failure<'a>> {
         let mut out = buffered(self.rt, self.rt.stdout())?;
-        let status = match prefix {
-            Some(text) => self.write_for_prefix(text, &mut out)?,
-            None => self.write_all_names(&mut out)?,
-        };
+        let status = self.write_all_names(&mut out)?;
         flushed(status, &mut out)
     }
 
-    // Prints what is found for a prefix of exactly one id, as for a line of standard input. If
-    // there is no such id, or more than one, that is reported.
-    fn answer_one<'a>(&mut self, text: &'a str) -> Result<u8, Failure<'a>> {
-        read_prefix(text, self.directory.kind)?;
-        let mut answer = Plain::new(Vec::new(self.rt.alloc()));
-        let status = match self.write_for_lines(text.as_bytes(), Answers::One, &mut answer) {
-            Err(Failure::Output(_)) => return Err(Failure::Memory),
-            status => status?,
-        };
-        let answer = answer.into_inner();
-        if let Some(mark) = mark_of(answer.trim_ascii_end()) {
-            report(self.rt, &format!(in self.rt.alloc(); "{text}:")?, mark);
-            return Ok(status);
-        }
+    // Prints what is found for a prefix, as for a line of standard input. If one id is asked for,
+    // and there is none, or more than one, that is reported.
+    fn answer_prefix<'a>(&mut self, text: &'a str, answers: Answers) -> Result<u8, Failure<'a>> {
+        expect_prefix(text, self.directory.kind)?;
         let mut out = buffered(self.rt, self.rt.stdout())?;
-        let _ = write_all(&mut out, &answer);
+        let (status, why) = self.write_for_lines(text.as_bytes(), answers, &mut out)?;
+        if let (Answers::BareOne, Some(why)) = (answers, why) {
+            report(self.rt, &format!(in self.rt.alloc(); "{text}: {why}")?, "");
+        }
         flushed(status, &mut out)
     }
 
@@ -190,56 +178,6 @@ impl Asked<'_> {
         Ok(status)
     }
 
-    // Opens the store, and writes the lines of `find` or `locate` for a prefix.
-    fn write_for_prefix<'a, W: io::Write>(
-        &mut self,
-        text: &'a str,
-        out: &mut Plain<W>,
-    ) -> Result<u8, Failure<'a>>
-        requires { plain_failed out.old ≡ false }
-        ensures output { OnOk result (plain_failed out.new ≡ false) }
-        ensures answered { IfOk result (λ status. IsSomeAnd self.new.kept (λ store. (any : Bool)
-            × IsStatus store.skipped.items any status
-            × IsOkAnd (prefix_read_in self.old.directory.now.kind hex_letter text.now) (λ prefix.
-            HasAnsweredPrefix Global self.old.question
-            (⟦<DirectoryStore<HostRuntime> as StorePaths>⟧.pack_path store)
-            (⟦<DirectoryStore<HostRuntime> as StorePaths>⟧.loose_paths store)
-            (⟦<DirectoryStore<HostRuntime> as Store>⟧.view store) prefix.digits any
-            (W.contents (plain_inner out.old)) (W.contents (plain_inner out.new))))) }
-    {
-        let prefix = read_prefix(text, self.directory.kind)?;
-        let loose = LooseIds::WithFirstByte(prefix.first_byte());
-        let prefixes = [prefix];
-        let checked = self.checked(&prefixes);
-        let mut store = store_now(self.rt, self.directory, None, loose, checked)?;
-        let ran = self.ask_for_prefix(&mut store, &prefix, out);
-        self.status_of(store, ran, out)
-    }
-
-    // Writes the lines of `find` or `locate` for a prefix, and returns whether an id begins with
-    // it.
-    fn ask_for_prefix<S: Reopen + StorePaths, W: Sink>(
-        &self,
-        store: &mut S,
-        prefix: &Prefix,
-        out: &mut W,
-    ) -> Result<bool, StoreError>
-        requires can { CanLookUp (S.view store.old) prefix.now }
-        requires output { W.has_failed out.old ≡ false }
-        ensures reopened { IsReopened (S.may_have store.old) (S.may_have store.new)
-            (S.view store.old) (S.view store.new) }
-        ensures answered { IfOk result (λ any. HasAnsweredPrefix Global self.now.question
-            (S.pack_path store.new) (S.loose_paths store.new) (S.view store.new)
-            prefix.now.digits any (W.taken out.old) (W.taken out.new)) }
-        ensures output { IsErrOf result StoreError.Output ↔ (W.has_failed out.new ≡ true) }
-    {
-        let alloc = self.rt.alloc();
-        match self.question {
-            Question::Locate => locate(alloc, store, prefix, out),
-            Question::Find | Question::Names => find(alloc, store, prefix, out),
-        }
-    }
-
     // Opens the store, and writes the lines of `abbreviate`. Lines that were written before the
     // store was opened again may lack ids that were skipped then.
     fn write_all_names<'a, W: io::Write>(&mut self, out: &mut Plain<W>) -> Result<u8, Failure<'a>>
@@ -254,28 +192,29 @@ impl Asked<'_> {
         let mut store = DirectoryStore::open(self.rt, self.directory, LooseIds::All)?;
         let ran = names(self.rt.alloc(), &mut store, self.least, out);
         let was_whole = report_skipped(self.rt, store.skipped_before(), &mut self.reported);
-        let status = self.status_of(store, ran, out)?;
+        let kept = self.keep(store, ran, out)?;
+        let status = status_if(kept.1, kept.0);
         if was_whole? { Ok(status) } else { Ok(FAILED) }
     }
 
-    // Writes what each of the lines finds in a store, and returns whether each finds what is asked
-    // for.
+    // Writes what each of the lines finds in a store, and returns why the first that has no answer
+    // has none.
     fn ask_for_lines<S: Reopen + StorePaths, W: Sink>(
         &self,
         store: &mut S,
         lines: &PrefixLines<'_, Global>,
         answers: Answers,
         out: &mut W,
-    ) -> Result<bool, StoreError>
+    ) -> Result<Option<NoAnswer>, StoreError>
         requires kind { lines.now.kind ≡ (S.view store.old).kind }
         requires listed { AreListed (S.view store.old) lines.now.prefixes.items }
         requires fits { self.now.least ≤ hex_len_of (S.view store.old).kind }
         requires output { W.has_failed out.old ≡ false }
         ensures reopened { IsReopened (S.may_have store.old) (S.may_have store.new)
             (S.view store.old) (S.view store.new) }
-        ensures answered { IfOk result (λ all. HasAnsweredLines Global self.now.question answers
+        ensures answered { IfOk result (λ why. HasAnsweredLines Global self.now.question answers
             self.now.least (S.pack_path store.new) (S.loose_paths store.new) (S.view store.new)
-            (lines_of lines.now.text.now) all (W.taken out.old) (W.taken out.new)) }
+            (lines_of lines.now.text.now) why (W.taken out.old) (W.taken out.new)) }
         ensures untouched { IsErrOf result StoreError.TooMany → out.new ≡ out.old }
         ensures output { IsErrOf result StoreError.Output ↔ (W.has_failed out.new ≡ true) }
     {
@@ -297,26 +236,26 @@ impl Asked<'_> {
         }
     }
 
-    // The status of a command that ran over a store, which is kept.
-    fn status_of<'a, W>(
+    // What a command found over a store, which is kept, and whether nothing of it was skipped.
+    fn keep<'a, T: Drop, W>(
         &mut self,
         store: DirectoryStore<HostRuntime>,
-        ran: Result<bool, StoreError>,
+        ran: Result<T, StoreError>,
         out: &Plain<W>,
-    ) -> Result<u8, Failure<'a>>
+    ) -> Result<(T, bool), Failure<'a>>
         requires kind { store.directory.kind ≡ self.old.directory.now.kind }
         requires output { IsErrOf ran StoreError.Output ↔ (plain_failed out.now ≡ true) }
-        ensures ran { IfOk result (λ status. IsOkAnd ran (λ any.
-            IsStatus store.skipped.items any status)) }
+        ensures ran { IfOk result (λ kept. ran ≡ Ok kept.0) }
+        ensures whole { IfOk result (λ kept. IsTrue kept.1 ↔ (store.skipped.items ≡ [])) }
         ensures kept { OnOk result (self.new.kept ≡ Some store) }
         ensures question { self.new.question ≡ self.old.question }
         ensures least { self.new.least ≡ self.old.least }
         ensures many { IsErrOf result Failure.TooMany → IsErrOf ran StoreError.TooMany }
         ensures output { OnOk result (plain_failed out.now ≡ false) }
     {
-        let status = match ran {
-            Ok(any) => match report_skipped(self.rt, store.skipped(), &mut self.reported) {
-                Ok(is_whole) => Ok(status_if(is_whole, any)),
+        let found = match ran {
+            Ok(found) => match report_skipped(self.rt, store.skipped(), &mut self.reported) {
+                Ok(is_whole) => Ok((found, is_whole)),
                 Err(error) => Err(Failure::from(error)),
             },
             Err(StoreError::TooMany) => Err(Failure::TooMany),
@@ -324,33 +263,34 @@ impl Asked<'_> {
             Err(StoreError::Store(error)) => return Err(failure_of(store, error)),
         };
         drop(self.kept.replace(store));
-        status
+        found
     }
 }
 
 impl AnswerLines for Asked<'_> {
     ghost asked = { λ asked. (asked.question, asked.least) };
 
-    ghost is_answer = { λ (question, least) answers asked lines status old new.
-        IsSomeAnd asked.kept (λ store. (all : Bool) × IsStatus store.skipped.items all status
+    ghost is_answer = { λ (question, least) answers asked lines (status, why) old new.
+        IsSomeAnd asked.kept (λ store. IsStatus store.skipped.items (is_none why) status
         × HasAnsweredLines Global question answers least
         (⟦<DirectoryStore<HostRuntime> as StorePaths>⟧.pack_path store)
         (⟦<DirectoryStore<HostRuntime> as StorePaths>⟧.loose_paths store)
-        (⟦<DirectoryStore<HostRuntime> as Store>⟧.view store) (lines_of lines) all old new) };
+        (⟦<DirectoryStore<HostRuntime> as Store>⟧.view store) (lines_of lines) why old new) };
 
     fn write_for_lines<'a, W: io::Write>(
         &mut self,
         lines: &[u8],
         answers: Answers,
         out: &mut Plain<W>,
-    ) -> Result<u8, Failure<'a>> {
+    ) -> Result<(u8, Option<NoAnswer>), Failure<'a>> {
         let alloc = self.rt.alloc();
         let lines = PrefixLines::read(alloc, self.directory.kind, lines)?;
         let loose = loose_of(lines.prefixes());
         let checked = self.checked(lines.prefixes());
         let mut store = store_now(self.rt, self.directory, self.kept.take(), loose, checked)?;
         let ran = self.ask_for_lines(&mut store, &lines, answers, out);
-        self.status_of(store, ran, out)
+        let kept = self.keep(store, ran, out)?;
+        Ok((status_if(kept.1, kept.0.is_none()), kept.0))
     }
 }
 
@@ -362,22 +302,6 @@ fn failure_of<'a>(store: DirectoryStore<HostRuntime>, error: object_store::Error
     match (error, store.into_reopen_error()) {
         (object_store::Error::Gone { .. }, Some(failed)) => Failure::Store(failed),
         (error, _) => Failure::LookUp(error),
-    }
-}
-
-// What is printed after a prefix instead of its only id, at the end of this line, or `None` if that
-// id was found: then the line ends with a digit, as the lines of locations do.
-fn mark_of(line: &[u8]) -> Option<&'static str>
-    ensures { MatchOption result ((ends_with nat_eq line.now MISSING.now ≡ false)
-        × (ends_with nat_eq line.now AMBIGUOUS.now ≡ false))
-        (λ mark. ends_with nat_eq line.now mark.now ≡ true) }
-{
-    if line.ends_with(MISSING.as_bytes()) {
-        Some(MISSING)
-    } else if line.ends_with(AMBIGUOUS.as_bytes()) {
-        Some(AMBIGUOUS)
-    } else {
-        None
     }
 }
 
@@ -512,18 +436,13 @@ fn least_in<'a>(kind: Kind, least: usize) -> Result<usize, Failure<'a>>
     Ok(least)
 }
 
-// The prefix that a text is.
-fn read_prefix<'a>(text: &'a str, kind: Kind) -> Result<Prefix, Failure<'a>>
-    ensures read { IfOk result (λ prefix. prefix_read_in kind hex_letter text.now ≡ Ok prefix) }
-    ensures enough { IfOk result (λ prefix. 2 ≤ length prefix.digits) }
-    ensures kind { IfOk result (λ prefix. prefix.kind ≡ kind) }
-    ensures refused { IfErr result (λ _. IfOk (prefix_read_in kind hex_letter text.now)
-        (λ prefix. length prefix.digits < 2)) }
+// Fails if a text is not a prefix.
+fn expect_prefix<'a>(text: &'a str, kind: Kind) -> Result<(), Failure<'a>>
+    ensures ok { OnOk result (prefix_of kind text.now ≢ None) }
+    ensures refused { OnErr result (prefix_of kind text.now ≡ None) }
 {
-    if let Ok(prefix) = Prefix::from_hex_in(kind, text)
-        && prefix.hex_len() >= 2
-    {
-        return Ok(prefix);
+    if prefix_in(kind, text.as_bytes()).is_some() {
+        return Ok(());
     }
     let text = beginning(lossy_text(text).unwrap_or(text));
     let most = kind.len_in_hex();

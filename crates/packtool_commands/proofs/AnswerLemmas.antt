@@ -5,10 +5,13 @@ use Rattle.id_lookup.specs.Words.{Kind, KindDigits, digits_read, hex_len_of, hex
 use Rattle.object_store.specs.Several.{limited_to}
 use Rattle.object_store.specs.Stores.{CanLookUp, IsReopened, StoreView}
 use Rattle.streams.specs.Streams.{lines_of}
-use Rattle.packtool_commands.specs.Stores.{AreListed, found_text, is_found, limit_for, of_two, prefix_of, prefixes_of}
+use Rattle.packtool_commands.specs.Stores.{AreListed, found_text, limit_for, no_answer, of_two, prefix_of, prefixes_of}
 use Rattle.packtool_commands.specs.declared.prefixes.Line.{Line}
+use Rattle.std.specs.Option.{option_map_or, option_or}
 use Rattle.packtool_commands.specs.declared.printing.Answers.{Answers}
-use Rattle.packtool_commands.specs.declared.printing.Answers.TheVariants.{All as AllOfThem, One}
+use Rattle.packtool_commands.specs.declared.printing.NoAnswer.{NoAnswer}
+use Rattle.packtool_commands.specs.declared.printing.NoAnswer.TheVariants.{Bad}
+use Rattle.packtool_commands.specs.declared.printing.Answers.TheVariants.{All as AllOfThem, Bare, BareOne, One}
 
 -- a text that is empty has no line
 pub lines_at_end : (text : List ℕ) → length text ≡ 0 → lines_of text ≡ []
@@ -27,12 +30,25 @@ text_of_first text AllOfThem line found = refl
 text_of_first text One line [] = refl
 text_of_first text One line (x ∷ []) = refl
 text_of_first text One line (x ∷ (other ∷ found)) = refl
+text_of_first text Bare line found = refl
+text_of_first text BareOne line [] = refl
+text_of_first text BareOne line (x ∷ []) = refl
+text_of_first text BareOne line (x ∷ (other ∷ found)) = refl
 
-pub first_is_found : {X : Type 0} (answers : Answers) (found : List X) → is_found answers (limited_to (limit_for answers) found) ≡ is_found answers found
-first_is_found AllOfThem found = refl
-first_is_found One [] = refl
-first_is_found One (x ∷ []) = refl
-first_is_found One (x ∷ (other ∷ found)) = refl
+-- and so is why they are no answer
+pub no_answer_of_first : {X : Type 0} (answers : Answers) (found : List X) → no_answer answers (limited_to (limit_for answers) found) ≡ no_answer answers found
+no_answer_of_first AllOfThem found = refl
+no_answer_of_first One [] = refl
+no_answer_of_first One (x ∷ []) = refl
+no_answer_of_first One (x ∷ (other ∷ found)) = refl
+no_answer_of_first Bare found = refl
+no_answer_of_first BareOne [] = refl
+no_answer_of_first BareOne (x ∷ []) = refl
+no_answer_of_first BareOne (x ∷ (other ∷ found)) = refl
+
+-- why the first line that has no answer has none, of those before a line and this one
+abbrev pub first_why : {X : Type 0} → (X → Option NoAnswer) → Option NoAnswer → List ℕ × Option X → Option NoAnswer
+first_why lacks before answer = option_or before (option_map_or lacks answer.1 (Some Bad))
 
 -- a line, and whether it is a prefix
 abbrev pub mark : Line → List ℕ × Bool

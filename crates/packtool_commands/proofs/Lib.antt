@@ -3,4 +3,5 @@ mod LineLemmas
 mod KeptLines
 mod ShownLemmas
 mod NamedLemmas
+mod OnePrefix
 mod EscapeLemmas

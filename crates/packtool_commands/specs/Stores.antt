@@ -1,13 +1,12 @@
 -- What is printed of the ids of a store, and why that fails.
-use Rattle.std.specs.Prelude.{[], ℕ, ◌++◌, ◌<◌, ◌↔◌, ◌∷◌, ◌≡◌, ◌≢◌, All, Bool, IsTrue, List, None, Option, Some, Vec, codes, decimal, false, flat_map, if◌then◌else◌, length, map, nat_lt, string_bytes, suc, true, zero, is_some, option_map, option_to_list}
+use Rattle.std.specs.Prelude.{[], ℕ, ◌++◌, ◌<◌, ◌↔◌, ◌∷◌, ◌≡◌, ◌≢◌, All, Bool, IsTrue, List, None, Option, Some, Vec, codes, decimal, false, flat_map, fold, if◌then◌else◌, length, map, nat_lt, string_bytes, suc, true, zero, is_some, option_map, option_to_list}
 use Rattle.std.specs.Io.KnownBytes.{Appends}
-use Rattle.std.specs.List.{list_all}
-use Rattle.std.specs.Option.{option_map_or}
+use Rattle.std.specs.Option.{option_map_or, option_or}
 use Rattle.id_lookup.specs.Words.{Kind, KindDigits, ObjectId, digits_read, first_byte_of, hex_len_of, hex_letter, id_digits, kind_digits, spelling}
-use Rattle.streams.specs.Streams.{AppendsAtMost, AppendsPart, printed}
+use Rattle.streams.specs.Streams.{AppendsAtMost, AppendsPart}
 use Rattle.pack_index.specs.Format.{Each}
-use Rattle.object_store.specs.Several.{AreAbbreviatedOfEach, AreLocated, AreLocatedOfEach, AreNamed}
-use Rattle.object_store.specs.Stores.{AreMatches, AreMatchesOfEach, HaveBuckets, IsListed, IsStoreFault, StoreView}
+use Rattle.object_store.specs.Several.{AreAbbreviatedOfEach, AreLocatedOfEach, AreNamed}
+use Rattle.object_store.specs.Stores.{AreMatchesOfEach, HaveBuckets, IsListed, IsStoreFault, StoreView}
 use Rattle.object_store.specs.declared.error.Error.{Error}
 use Rattle.object_store.specs.declared.parts.LocatedId.{LocatedId}
 use Rattle.object_store.specs.declared.parts.Location.{Location}
@@ -18,21 +17,10 @@ use Rattle.object_store.specs.declared.parts.NamedId.{NamedId}
 use Rattle.packtool_commands.specs.Files.{escape_mark, escaped}
 use Rattle.packtool_commands.specs.declared.printing.Answers.{Answers}
 use Rattle.packtool_commands.specs.declared.printing.Answers.TheVariants as answers_of
+use Rattle.packtool_commands.specs.declared.printing.NoAnswer.{NoAnswer}
+use Rattle.packtool_commands.specs.declared.printing.NoAnswer.TheVariants as no_answers
 use Rattle.packtool_commands.specs.declared.error.StoreError.{StoreError}
 use Rattle.packtool_commands.specs.declared.error.StoreError.TheVariants.{Output, Store, TooMany}
-
--- a line was written for each id of the store that begins with the digits, and whether there is one was returned
-pub record HasPrinted (view : StoreView) (digits : List ℕ) (any : Bool) (old new : Option (List ℕ)) : Type 0 where
-  pub ids : List ObjectId
-  pub are_matches : AreMatches view digits ids
-  pub found : IsTrue any ↔ (ids ≢ [])
-  pub written : Appends old new (printed hex_letter (map id_digits ids))
-
--- a proper beginning of these lines was written
-pub record HasPrintedPart (view : StoreView) (digits : List ℕ) (old new : Option (List ℕ)) : Type 0 where
-  pub ids : List ObjectId
-  pub are_matches : AreMatches view digits ids
-  pub written : AppendsPart old new (printed hex_letter (map id_digits ids))
 
 -- what an error says about a store: what the error of a look-up says; any other error says nothing
 abbrev pub IsFaultOf : (Error → Type 0) → StoreError → Type 0
@@ -76,27 +64,31 @@ front_text (Some line) = line ++ 32 ∷ []
 abbrev pub id_line : Option (List ℕ) → List ℕ → List ℕ
 id_line line id = front_text line ++ (spelling hex_letter id ++ 10 ∷ [])
 
--- what is printed for a prefix by what was found, where each thing that was found has a text: all of it, each after the line, or the only one; or that there is
--- none, or more than one
+-- what is printed for a prefix by what was found, where each thing that was found has a text: all of it, each after the line or alone, or the only one; and
+-- if there is none, or more than one, that it is so, or nothing
 abbrev pub found_text : {X : Type 0} → (Option (List ℕ) → X → List ℕ) → Answers → List ℕ → List X → List ℕ
 found_text text answers_of.All line [] = line_with line (codes "missing")
 found_text text answers_of.All line (x ∷ xs) = flat_map (text (Some line)) (x ∷ xs)
 found_text text answers_of.One line [] = line_with line (codes "missing")
 found_text text answers_of.One line (x ∷ []) = text None x
 found_text text answers_of.One line (x ∷ (other ∷ xs)) = line_with line (codes "ambiguous")
+found_text text answers_of.Bare line xs = flat_map (text None) xs
+found_text text answers_of.BareOne line [] = []
+found_text text answers_of.BareOne line (x ∷ []) = text None x
+found_text text answers_of.BareOne line (x ∷ (other ∷ xs)) = []
 
--- how many of the things are needed for that: all, or the first two, which show whether there are several
+-- how many of the things are needed for that: all, or, if one is asked for, the first two, which show whether there are several
 abbrev pub limit_for : Answers → Option ℕ
 limit_for answers_of.All = None
 limit_for answers_of.One = Some 2
+limit_for answers_of.Bare = None
+limit_for answers_of.BareOne = Some 2
 
--- whether that is what is asked for: at least one thing, or exactly one
-abbrev pub is_found : {X : Type 0} → Answers → List X → Bool
-is_found answers_of.All [] = false
-is_found answers_of.All (x ∷ xs) = true
-is_found answers_of.One [] = false
-is_found answers_of.One (x ∷ []) = true
-is_found answers_of.One (x ∷ (other ∷ xs)) = false
+-- why they are no answer, if they are none: there is none, or more than one, and one is asked for
+abbrev pub no_answer : {X : Type 0} → Answers → List X → Option NoAnswer
+no_answer answers [] = Some no_answers.Missing
+no_answer answers (x ∷ []) = None
+no_answer answers (x ∷ (other ∷ xs)) = if is_some (limit_for answers) then Some no_answers.Ambiguous else None
 
 -- lines, and whether each is a prefix
 abbrev pub marked : Kind → List (List ℕ) → List (List ℕ × Bool)
@@ -118,16 +110,17 @@ answer_of text (line, Some x) = text line x
 unfoldable pub answers_by : {X : Type 0} → (List ℕ → X → List ℕ) → Kind → List (List ℕ) → List X → List ℕ
 answers_by text kind lines found = flat_map (answer_of text) (with_found (marked kind lines) found)
 
--- whether each line has what is asked for
-unfoldable pub are_answers_by : {X : Type 0} → (X → Bool) → Kind → List (List ℕ) → List X → Bool
-are_answers_by is_wanted kind lines found = list_all (λ answer. option_map_or is_wanted answer.1 false) (with_found (marked kind lines) found)
+-- why the first line that has no answer has none, by why what was found for a prefix is none
+unfoldable pub no_answer_by : {X : Type 0} → (X → Option NoAnswer) → Kind → List (List ℕ) → List X → Option NoAnswer
+no_answer_by lacks kind lines found =
+    fold (λ before answer. option_or before (option_map_or lacks answer.1 (Some no_answers.Bad))) None (with_found (marked kind lines) found)
 
--- what is printed for lines by what was found for the prefixes among them was written, and whether each has what is asked for was returned
-pub record HasAnsweredBy {X : Type 0} (AreFound : List X → Type 0) (text : List ℕ → X → List ℕ) (is_wanted : X → Bool) (kind : Kind) (lines : List (List ℕ))
-    (all : Bool) (old new : Option (List ℕ)) : Type 0 where
+-- what is printed for lines by what was found for the prefixes among them was written, and why the first that has no answer has none was returned
+pub record HasAnsweredBy {X : Type 0} (AreFound : List X → Type 0) (text : List ℕ → X → List ℕ) (lacks : X → Option NoAnswer) (kind : Kind)
+    (lines : List (List ℕ)) (why : Option NoAnswer) (old new : Option (List ℕ)) : Type 0 where
   pub results : List X
   pub are_found : AreFound results
-  pub found : all ≡ are_answers_by is_wanted kind lines results
+  pub first : why ≡ no_answer_by lacks kind lines results
   pub written : Appends old new (answers_by text kind lines results)
 
 -- a proper beginning of it was written
@@ -138,10 +131,10 @@ pub record HasAnsweredByPart {X : Type 0} (AreFound : List X → Type 0) (text :
   pub written : AppendsPart old new (answers_by text kind lines results)
 
 -- the ids that begin with each prefix were found and printed; A is the type of the allocator of what was found
-abbrev pub HasAnsweredMatches : (A : Type 0) → Answers → StoreView → List (List ℕ) → Bool → Option (List ℕ) → Option (List ℕ) → Type 0
-HasAnsweredMatches A answers view lines all old new =
+abbrev pub HasAnsweredMatches : (A : Type 0) → Answers → StoreView → List (List ℕ) → Option NoAnswer → Option (List ℕ) → Option (List ℕ) → Type 0
+HasAnsweredMatches A answers view lines why old new =
     HasAnsweredBy {X = Vec ObjectId A} (AreMatchesOfEach view (prefixes_of view.kind lines))
-    (λ line ids. found_text (λ l (id : ObjectId). id_line l (id_digits id)) answers line ids.items) (λ ids. is_found answers ids.items) view.kind lines all old new
+    (λ line ids. found_text (λ l (id : ObjectId). id_line l (id_digits id)) answers line ids.items) (λ ids. no_answer answers ids.items) view.kind lines why old new
 
 -- a proper beginning of it was printed
 abbrev pub HasAnsweredMatchesPart : (A : Type 0) → Answers → StoreView → List (List ℕ) → Option (List ℕ) → Option (List ℕ) → Type 0
@@ -186,16 +179,16 @@ abbreviation_text line Missing = line_with line (codes "missing")
 abbreviation_text line Ambiguous = line_with line (codes "ambiguous")
 abbreviation_text line (Named named) = spelling hex_letter named.name.digits ++ 10 ∷ []
 
--- whether there is one
-abbrev pub is_named : Abbreviation → Bool
-is_named Missing = false
-is_named Ambiguous = false
-is_named (Named named) = true
+-- why there is none
+abbrev pub no_name : Abbreviation → Option NoAnswer
+no_name Missing = Some no_answers.Missing
+no_name Ambiguous = Some no_answers.Ambiguous
+no_name (Named named) = None
 
--- the abbreviations for the prefixes among lines were found and printed, and whether each line has one was returned
-abbrev pub HasNamedEach : ℕ → StoreView → List (List ℕ) → Bool → Option (List ℕ) → Option (List ℕ) → Type 0
-HasNamedEach least view lines all old new =
-    HasAnsweredBy (AreAbbreviatedOfEach least view (prefixes_of view.kind lines)) abbreviation_text is_named view.kind lines all old new
+-- the abbreviations for the prefixes among lines were found and printed, and why the first line that has none has none was returned
+abbrev pub HasNamedEach : ℕ → StoreView → List (List ℕ) → Option NoAnswer → Option (List ℕ) → Option (List ℕ) → Type 0
+HasNamedEach least view lines why old new =
+    HasAnsweredBy (AreAbbreviatedOfEach least view (prefixes_of view.kind lines)) abbreviation_text no_name view.kind lines why old new
 
 -- a proper beginning of it was printed
 abbrev pub HasNamedEachPart : ℕ → StoreView → List (List ℕ) → Option (List ℕ) → Option (List ℕ) → Type 0
@@ -222,29 +215,13 @@ abbrev pub located_lines : {A : Type 0} → (ℕ → List ℕ) → Option (List 
 located_lines pack_path line located =
     flat_map (lines_at_after line pack_path (map string_bytes located.loose_paths.items) (id_digits located.id)) located.locations.items
 
--- the lines of the locations of the ids that begin with the digits were written, and whether there is one was returned; A is the type of the allocator of
--- what was found
-pub record HasLocated (A : Type 0) (pack_path : ℕ → List ℕ) (loose_paths : List ℕ → List (List ℕ)) (view : StoreView) (digits : List ℕ) (any : Bool)
-    (old new : Option (List ℕ)) : Type 0 where
-  pub ids : List (LocatedId A)
-  pub are_located : AreLocated None view loose_paths digits ids
-  pub found : IsTrue any ↔ (ids ≢ [])
-  pub written : Appends old new (flat_map (located_lines pack_path None) ids)
-
--- a proper beginning of these lines was written
-pub record HasLocatedPart (A : Type 0) (pack_path : ℕ → List ℕ) (loose_paths : List ℕ → List (List ℕ)) (view : StoreView) (digits : List ℕ)
-    (old new : Option (List ℕ)) : Type 0 where
-  pub ids : List (LocatedId A)
-  pub are_located : AreLocated None view loose_paths digits ids
-  pub written : AppendsPart old new (flat_map (located_lines pack_path None) ids)
-
--- of the ids that begin with each prefix among lines as many as are needed were located, and the lines of their locations printed, and whether each line has
--- what is asked for was returned; A is the type of the allocator of what was found
-abbrev pub HasLocatedEach : (A : Type 0) → Answers → (ℕ → List ℕ) → (List ℕ → List (List ℕ)) → StoreView → List (List ℕ) → Bool → Option (List ℕ)
+-- of the ids that begin with each prefix among lines as many as are needed were located, and the lines of their locations printed, and why the first line that
+-- has no answer has none was returned; A is the type of the allocator of what was found
+abbrev pub HasLocatedEach : (A : Type 0) → Answers → (ℕ → List ℕ) → (List ℕ → List (List ℕ)) → StoreView → List (List ℕ) → Option NoAnswer → Option (List ℕ)
     → Option (List ℕ) → Type 0
-HasLocatedEach A answers pack_path loose_paths view lines all old new =
+HasLocatedEach A answers pack_path loose_paths view lines why old new =
     HasAnsweredBy {X = Vec (LocatedId A) A} (AreLocatedOfEach (limit_for answers) view loose_paths (prefixes_of view.kind lines))
-    (λ line ids. found_text (located_lines pack_path) answers line ids.items) (λ ids. is_found answers ids.items) view.kind lines all old new
+    (λ line ids. found_text (located_lines pack_path) answers line ids.items) (λ ids. no_answer answers ids.items) view.kind lines why old new
 
 -- a proper beginning of it was printed
 abbrev pub HasLocatedEachPart : (A : Type 0) → Answers → (ℕ → List ℕ) → (List ℕ → List (List ℕ)) → StoreView → List (List ℕ) → Option (List ℕ)

@@ -1,12 +1,18 @@
 //! Laws of what is printed that belong to no single call. Each is the contract of a function that
 //! computes nothing: a call of it brings the law into a caller's proof.
 
-ghost use Rattle.std.specs.Prelude.{◌≡◌, ◌≢◌, ◌++◌, false, ℕ, All, List, Option};
+ghost use Rattle.std.specs.Prelude.{◌≡◌, ◌≢◌, ◌++◌, ◌∷◌, [], false, ℕ, All, List, Option, Some, map};
+ghost use Rattle.std.specs.Io.KnownBytes.{Appends};
 ghost use Rattle.std.specs.List.{list_any};
+ghost use Rattle.id_lookup.specs.Words.{KindDigits, ObjectId, hex_letter, id_digits};
 ghost use Rattle.object_store.specs.Several.{limited_to};
+ghost use Rattle.object_store.specs.Stores.{AreMatches, StoreView};
 ghost use Rattle.packtool_commands.specs.Files.{escape_mark, escaped, file_line, is_special};
-ghost use Rattle.packtool_commands.specs.Stores.{found_text, is_found, limit_for};
+ghost use Rattle.packtool_commands.specs.Stores.{HasAnsweredMatches, found_text, limit_for, no_answer, prefix_of};
 ghost use Rattle.packtool_commands.specs.declared.printing.Answers.{Answers as AnswersAsked};
+ghost use Rattle.packtool_commands.specs.declared.printing.Answers.TheVariants.{Bare};
+ghost use Rattle.packtool_commands.specs.declared.printing.NoAnswer.{NoAnswer};
+ghost use Rattle.streams.specs.Streams.{printed};
 
 /// How a name is printed by [`write_named`](crate::write_named): with no line feed, so that no name
 /// looks like a further line; and as it is if it has no byte that is escaped.
@@ -17,13 +23,22 @@ pub fn printed_names()
         → file_line name text ≡ name ++ text }
 {}
 
-/// The first two things that a prefix finds are enough for [`Answers::One`](crate::Answers::One):
-/// what is printed for them, and whether it is what is asked for, is the same as for all things
-/// that it finds.
+/// The first two things that a prefix finds are enough if one is asked for: what is printed for
+/// them, and why they are no answer, is the same as for all things that it finds.
 pub fn two_are_enough<X>()
     ensures text { (text : Option (List ℕ) → X → List ℕ) (answers : AnswersAsked) (line : List ℕ)
         (found : List X) → found_text text answers line (limited_to (limit_for answers) found)
         ≡ found_text text answers line found }
-    ensures is_found { (answers : AnswersAsked) (found : List X)
-        → is_found answers (limited_to (limit_for answers) found) ≡ is_found answers found }
+    ensures no_answer { (answers : AnswersAsked) (found : List X)
+        → no_answer answers (limited_to (limit_for answers) found) ≡ no_answer answers found }
+{}
+
+/// What [`find_each`](crate::find_each) writes by [`Answers::Bare`](crate::Answers::Bare) for one
+/// line that is a prefix: a line for each id of the store that begins with it, and nothing else.
+pub fn bare_is_printed<A>()
+    ensures { (view : StoreView) (line : List ℕ) (prefix : KindDigits) (why : Option NoAnswer)
+        (old new : Option (List ℕ)) → prefix_of view.kind line ≡ Some prefix
+        → HasAnsweredMatches A Bare view (line ∷ []) why old new → (ids : List ObjectId)
+        × AreMatches view prefix.digits ids × (why ≡ no_answer Bare ids)
+        × Appends old new (printed hex_letter (map id_digits ids)) }
 {}

@@ -1,9 +1,9 @@
 //! The commands of `packtool`, over any store, reader, writer and allocator.
 //!
-//! [`find`] writes the ids of a store that begin with a prefix, [`locate`] the locations of these
-//! ids, and [`names`] all ids after their abbreviations. [`find_each`], [`locate_each`] and
-//! [`name_each`] do so for each line of a text ([`PrefixLines`]). If a pack index is gone
-//! meanwhile, they open the store again. [`write_names`] writes the lines of some ids. [`show`]
+//! For each line of a text ([`PrefixLines`]), [`find_each`] writes the ids of a store that begin
+//! with it, [`locate_each`] the locations of these ids, and [`name_each`] the abbreviation of the
+//! only one. [`names`] writes all ids after their abbreviations. If a pack index is gone meanwhile,
+//! they open the store again. [`write_names`] writes the lines of some ids. [`show`]
 //! writes the lines of a pack index as `git show-index` does. [`open_index`] opens one,
 //! [`write_ending`] writes whether a file ends with its digest, [`write_pairing`] whether a pack
 //! index belongs to the pack beside it, as [`pair`] finds, and [`write_named`] another line of a
@@ -28,10 +28,10 @@ mod showing;
 pub use ending::write_ending;
 pub use error::{FileError, StoreError};
 pub use escaping::write_named;
-pub use finding::{find, find_each};
-pub use locating::{locate, locate_each};
+pub use finding::find_each;
+pub use locating::locate_each;
 pub use naming::{name_each, names, write_names};
 pub use pairing::{Pairing, pair, write_pairing};
-pub use prefixes::PrefixLines;
-pub use printing::Answers;
+pub use prefixes::{PrefixLines, prefix_in};
+pub use printing::{Answers, NoAnswer};
 pub use showing::{open_index, show};

@@ -2,9 +2,9 @@
 
 ghost use Rattle.std.specs.Prelude.{◌≡◌, ◌≢◌, ◌↔◌, ◌<◌, ◌≤◌, [], ◌∷◌, ◌++◌, None, false, true, length, map, option_copied, string_bytes, take, All, IfErr, IfOk, IsErrOf};
 ghost use Rattle.id_lookup.specs.Words.{hex_letter, id_digits, spelling};
-ghost use Rattle.object_store.specs.Several.{AreLocated, AreLocatedOfEach, HaveMoreLocations, IsLocationsFault, IsLocationsFaultOfOne};
-ghost use Rattle.object_store.specs.Stores.{CanLookUp, IsReopened};
-ghost use Rattle.packtool_commands.specs.Stores.{AreListed, HasLocated, HasLocatedEach, HasLocatedEachPart, HasLocatedPart, IsFaultOf, limit_for, lines_at_after, located_lines, location_end, location_line, prefixes_of};
+ghost use Rattle.object_store.specs.Several.{AreLocatedOfEach, HaveMoreLocations, IsLocationsFaultOfOne};
+ghost use Rattle.object_store.specs.Stores.{IsReopened};
+ghost use Rattle.packtool_commands.specs.Stores.{AreListed, HasLocatedEach, HasLocatedEachPart, IsFaultOf, limit_for, lines_at_after, located_lines, location_end, location_line, prefixes_of};
 ghost use Rattle.packtool_commands.specs.declared.error.StoreError.{StoreError};
 ghost use Rattle.streams.specs.Streams.{Wrote, lines_of};
 
@@ -13,12 +13,14 @@ use crate::escaping::{write_before, write_mark};
 use crate::line_buffer::{put, put_id};
 use crate::line_end::push;
 use crate::prefixes::PrefixLines;
-use crate::printing::{Answers, ItemForm, ListForm, write_answers, write_each, write_front};
-use crate::reopening::{look_up_again, look_up_lines};
+use crate::printing::{
+    Answers, ItemForm, ListForm, NoAnswer, write_answers, write_each, write_front,
+};
+use crate::reopening::look_up_lines;
 use arrayvec::ArrayVec;
-use gix_hash::{ObjectId, Prefix};
+use gix_hash::ObjectId;
 use itoa::Buffer;
-use object_store::{LocatedId, Locating, Location, Parts, Reopen, StorePaths};
+use object_store::{LocatedId, Locating, Location, Reopen, StorePaths};
 use std::alloc::Allocator;
 use streams::{Sink, WriteFailed, write_all};
 
@@ -28,90 +30,18 @@ const MAX_START_LEN: usize = 65;
 // What is after the path: at most a space, an offset of 20 digits and a line feed.
 type End = ArrayVec<u8, 22>;
 
-/// Writes a line for each location of each id of a store that begins with a prefix: the id, a
-/// space, the path of the file that has it, and, of a pack, a space and the offset there. Returns
-/// whether there is such an id.
-///
-/// The ids are in order, each once; the locations of one in the order of
-/// [`Parts::locate`](object_store::Parts::locate); and a loose object has a line for each file.
-/// Paths are escaped as by [`write_named`](crate::write_named), so none looks like a further line.
-///
-/// The prefix has 2 digits or more, and the store's kind. Only ids with its first byte are read
-/// from a pack index. Nothing is written before all locations are found; if a pack index is gone by
-/// then, the store is opened again. [`StoreError::Output`] is returned if and only if a write
-/// fails, after a proper beginning of the lines. The sink must not have failed before.
-///
-/// ```
-/// if !locate(rt.alloc(), &mut store, &prefix, &mut out)? {
-///     println!(rt; "no id begins with {prefix}")?;
-/// }
-/// ```
-pub fn locate<S: Reopen + StorePaths, A: Allocator + Copy, W: Sink>(
-    alloc: A,
-    store: &mut S,
-    prefix: &Prefix,
-    out: &mut W,
-) -> Result<bool, StoreError>
-    requires can { CanLookUp (S.view store.old) prefix.now }
-    requires output { W.has_failed out.old ≡ false }
-    ensures reopened { IsReopened (S.may_have store.old) (S.may_have store.new)
-        (S.view store.old) (S.view store.new) }
-    ensures located { IfOk result (λ any. HasLocated A (S.pack_path store.new)
-        (S.loose_paths store.new) (S.view store.new) prefix.now.digits any
-        (W.taken out.old) (W.taken out.new)) }
-    ensures refused { IfErr result (IsFaultOf (IsLocationsFault None (S.view store.new)
-        prefix.now.digits)) }
-    ensures few { IfErr result (λ e. e ≢ StoreError.TooMany) }
-    ensures untouched { IfErr result (λ e. e ≢ StoreError.Output → out.new ≡ out.old) }
-    ensures output { IsErrOf result StoreError.Output ↔ (W.has_failed out.new ≡ true) }
-    ensures part { IsErrOf result StoreError.Output → HasLocatedPart A (S.pack_path store.new)
-        (S.loose_paths store.new) (S.view store.new) prefix.now.digits
-        (W.taken out.old) (W.taken out.new) }
-{
-    let located = locations_of(alloc, store, prefix)?;
-    write_each(None, &located, &LocationsForm { store: &*store }, out)?;
-    Ok(!located.is_empty())
-}
-
-// The ids of a store that begin with a prefix, with their locations.
-fn locations_of<S: Reopen + StorePaths, A: Allocator + Copy>(
-    alloc: A,
-    store: &mut S,
-    prefix: &Prefix,
-) -> Result<Vec<LocatedId<A>, A>, object_store::Error>
-    requires { CanLookUp (S.view store.old) prefix.now }
-    ensures reopened { IsReopened (S.may_have store.old) (S.may_have store.new)
-        (S.view store.old) (S.view store.new) }
-    ensures located { IfOk result (λ located. AreLocated None (S.view store.new)
-        (S.loose_paths store.new) prefix.now.digits located.items) }
-    ensures err { IfErr result (IsLocationsFault None (S.view store.new) prefix.now.digits) }
-{
-    look_up_again(
-        store,
-        |store: &mut S|
-            requires { CanLookUp (S.view store.old) prefix.now }
-        {
-            let mut parts = Parts::new(alloc, store);
-            let located = parts.locate_prefix(prefix, None);
-            // The contract of this call says that the store is as it was.
-            let _store = parts.into_store();
-            located
-        },
-    )
-}
-
 /// Writes for each of some lines, in order, the locations of the ids of a store that begin with
-/// it. Returns whether each line found what is asked for: an id, or for [`Answers::One`] a single
-/// one.
+/// it. Returns why the first line that has no answer has none, or `None` if each has one.
 ///
-/// For a prefix the lines of [`locate`] are written: with [`Answers::All`] each after the line as
-/// it is and a space, and with [`Answers::One`] those of the only id, as they are. The backslash of
-/// an escaped path is the first byte, before the line. [`find_each`](crate::find_each) says what is
-/// written for a line that is not a prefix, for a prefix of no id, and for [`Answers::One`] and a
-/// prefix of several ids.
+/// For each location of an id a line is written: the id, a space, the path of the file that has it,
+/// and, of a pack, a space and the offset there. The ids are in order, each once; the locations of
+/// one in the order of [`Parts::locate`](object_store::Parts::locate); and a loose object has a
+/// line for each file. Paths are escaped as by [`write_named`](crate::write_named), so none looks
+/// like a further line; the backslash of an escaped path is the first byte, before all else.
+/// [`find_each`](crate::find_each) says what is written for a line that has no answer.
 ///
 /// The ids of a pack index with a first byte are read once. If they were found in order before,
-/// only some of them are read, for each line. For [`Answers::One`] only the first two ids of a
+/// only some of them are read, for each line. If one id is asked for, only the first two of a
 /// prefix are located: if a further one has no offset, that is no error. Nothing is written before
 /// all locations are found; if a pack index is gone by then, the store is opened again. If the
 /// locations are more than `most`, and there are several prefixes, then nothing is written, and
@@ -120,9 +50,8 @@ fn locations_of<S: Reopen + StorePaths, A: Allocator + Copy>(
 ///
 /// ```
 /// let lines = PrefixLines::read(rt.alloc(), Kind::Sha1, b"4b8\n4b9\n")?;
-/// if !locate_each(rt.alloc(), &mut store, &lines, Answers::One, 65_536, &mut out)? {
-///     println!(rt; "not each of the two is one id")?;
-/// }
+/// let why = locate_each(rt.alloc(), &mut store, &lines, Answers::One, 65_536, &mut out)?;
+/// println!(rt; "each of the two is one id: {}", why.is_none())?;
 /// ```
 pub fn locate_each<S: Reopen + StorePaths, A: Allocator + Copy, W: Sink>(
     alloc: A,
@@ -131,14 +60,14 @@ pub fn locate_each<S: Reopen + StorePaths, A: Allocator + Copy, W: Sink>(
     answers: Answers,
     most: usize,
     out: &mut W,
-) -> Result<bool, StoreError>
+) -> Result<Option<NoAnswer>, StoreError>
     requires kind { lines.now.kind ≡ (S.view store.old).kind }
     requires listed { AreListed (S.view store.old) lines.now.prefixes.items }
     requires output { W.has_failed out.old ≡ false }
     ensures reopened { IsReopened (S.may_have store.old) (S.may_have store.new)
         (S.view store.old) (S.view store.new) }
-    ensures located { IfOk result (λ all. HasLocatedEach A answers (S.pack_path store.new)
-        (S.loose_paths store.new) (S.view store.new) (lines_of lines.now.text.now) all
+    ensures located { IfOk result (λ why. HasLocatedEach A answers (S.pack_path store.new)
+        (S.loose_paths store.new) (S.view store.new) (lines_of lines.now.text.now) why
         (W.taken out.old) (W.taken out.new)) }
     ensures refused { IfErr result (IsFaultOf (IsLocationsFaultOfOne (limit_for answers)
         (S.view store.new) lines.now.prefixes.items)) }
@@ -191,8 +120,8 @@ fn limit_for(answers: Answers) -> Option<usize>
     ensures { result ≡ limit_for answers }
 {
     match answers {
-        Answers::All => None,
-        Answers::One => Some(2),
+        Answers::All | Answers::Bare => None,
+        Answers::One | Answers::BareOne => Some(2),
     }
 }
 

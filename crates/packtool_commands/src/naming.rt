@@ -4,14 +4,14 @@ ghost use Rattle.std.specs.Prelude.{◌≡◌, ◌≢◌, ◌↔◌, ◌⊎◌, 
 ghost use Rattle.id_lookup.specs.Words.{hex_len_of, hex_letter, spelling};
 ghost use Rattle.object_store.specs.Several.{AreNamed, IsAbbreviated, id_count};
 ghost use Rattle.object_store.specs.Stores.{HaveMore, IsFaultOfOne, IsListed, IsReopened, IsSeen, IsStoreFault};
-ghost use Rattle.packtool_commands.specs.Stores.{AreListed, HasNamedAtMost, HasNamedBelow, HasNamedEach, HasNamedEachPart, IsFaultOf, IsWalkFault, abbreviation_text, is_named, name_line};
+ghost use Rattle.packtool_commands.specs.Stores.{AreListed, HasNamedAtMost, HasNamedBelow, HasNamedEach, HasNamedEachPart, IsFaultOf, IsWalkFault, abbreviation_text, name_line, no_name};
 ghost use Rattle.packtool_commands.specs.declared.error.StoreError.{StoreError};
 ghost use Rattle.streams.specs.Streams.{Wrote, lines_of};
 
 use crate::error::StoreError;
 use crate::line_buffer::{LINES_LEN, next_line_at, put_name_line};
 use crate::prefixes::PrefixLines;
-use crate::printing::{AnswerForm, write_answers, write_two};
+use crate::printing::{AnswerForm, NoAnswer, write_answers, write_two};
 use crate::reopening::{look_up_again, look_up_lines};
 use gix_hash::{Kind, Prefix};
 use object_store::{Abbreviating, Abbreviation, NamedId, Reopen, abbreviate_part};
@@ -127,8 +127,9 @@ pub fn write_names<W: Sink>(named: &[NamedId], out: &mut W) -> Result<(), WriteF
 }
 
 /// Writes for each of some lines, in order, the abbreviation of the only id of a store that begins
-/// with it, of at least `least` digits, from 4 up to all of the kind; and a line feed. Returns
-/// whether each line is a prefix of exactly one id. `git rev-parse --short` prints the same.
+/// with it, of at least `least` digits, from 4 up to all of the kind; and a line feed. Returns why
+/// the first line that is no prefix of exactly one id is none, or `None` if each is one. `git
+/// rev-parse --short` prints the same.
 ///
 /// The lines are of the store's kind. For a line that is not a prefix, the line and ` bad` are
 /// written, for a prefix of no id the line and ` missing`, and for a prefix of several ids the line
@@ -143,9 +144,8 @@ pub fn write_names<W: Sink>(named: &[NamedId], out: &mut W) -> Result<(), WriteF
 ///
 /// ```
 /// let lines = PrefixLines::read(rt.alloc(), Kind::Sha1, b"4b8\n4b9\n")?;
-/// if !name_each(rt.alloc(), &mut store, &lines, 7, 65_536, &mut out)? {
-///     println!(rt; "not each of the two is a prefix of exactly one id")?;
-/// }
+/// let why = name_each(rt.alloc(), &mut store, &lines, 7, 65_536, &mut out)?;
+/// println!(rt; "each of the two is one id: {}", why.is_none())?;
 /// ```
 pub fn name_each<S: Reopen, A: Allocator + Copy, W: Sink>(
     alloc: A,
@@ -154,7 +154,7 @@ pub fn name_each<S: Reopen, A: Allocator + Copy, W: Sink>(
     least: usize,
     most: usize,
     out: &mut W,
-) -> Result<bool, StoreError>
+) -> Result<Option<NoAnswer>, StoreError>
     requires kind { lines.now.kind ≡ (S.view store.old).kind }
     requires listed { AreListed (S.view store.old) lines.now.prefixes.items }
     requires enough { 4 ≤ least }
@@ -162,8 +162,8 @@ pub fn name_each<S: Reopen, A: Allocator + Copy, W: Sink>(
     requires output { W.has_failed out.old ≡ false }
     ensures reopened { IsReopened (S.may_have store.old) (S.may_have store.new)
         (S.view store.old) (S.view store.new) }
-    ensures named { IfOk result (λ all. HasNamedEach least (S.view store.new)
-        (lines_of lines.now.text.now) all (W.taken out.old) (W.taken out.new)) }
+    ensures named { IfOk result (λ why. HasNamedEach least (S.view store.new)
+        (lines_of lines.now.text.now) why (W.taken out.old) (W.taken out.new)) }
     ensures refused { IfErr result (IsFaultOf (IsFaultOfOne (S.view store.new)
         lines.now.prefixes.items)) }
     ensures several { IsErrOf result StoreError.TooMany → 1 < length lines.now.prefixes.items }
@@ -184,7 +184,7 @@ struct AbbreviationForm;
 impl AnswerForm<Abbreviation> for AbbreviationForm {
     ghost text = { λ _ line found. abbreviation_text line found };
 
-    ghost is_found = { λ _ found. is_named found };
+    ghost no_answer = { λ _ found. no_name found };
 
     fn write<W: Sink>(
         &self,
@@ -199,8 +199,12 @@ impl AnswerForm<Abbreviation> for AbbreviationForm {
         }
     }
 
-    fn is_found(&self, found: &Abbreviation) -> bool {
-        matches!(found, Abbreviation::Named(_))
+    fn no_answer(&self, found: &Abbreviation) -> Option<NoAnswer> {
+        match found {
+            Abbreviation::Missing => Some(NoAnswer::Missing),
+            Abbreviation::Ambiguous => Some(NoAnswer::Ambiguous),
+            Abbreviation::Named(_) => None,
+        }
     }
 }
 

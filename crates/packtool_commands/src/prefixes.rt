@@ -102,8 +102,14 @@ fn line_feed_in(text: &[u8]) -> Option<usize>
     text.iter().position(|byte| *byte == b'\n')
 }
 
-// The prefix that a line is.
-fn prefix_in(kind: Kind, line: &[u8]) -> Option<Prefix>
+/// The prefix of a kind that a line is, as [`PrefixLines`] says, or `None` if it is not one.
+///
+/// ```
+/// if prefix_in(Kind::Sha1, b"4b8").is_some() {
+///     println!(rt; "it may be looked up")?;
+/// }
+/// ```
+pub fn prefix_in(kind: Kind, line: &[u8]) -> Option<Prefix>
     ensures { result ≡ prefix_of kind line.now }
 {
     if line.len() > kind.len_in_hex() {

@@ -1,16 +1,20 @@
 //! What is printed for each line of a text, by what is found in a store.
 
-ghost use Rattle.std.specs.Prelude.{◌≡◌, ◌++◌, ◌∷◌, ◌&&◌, ℕ, Bool, List, IfOk, OnErr, OnOk, Option, false, flat_map, option_copied, true};
+ghost use Rattle.std.specs.Prelude.{◌≡◌, ◌++◌, ◌∷◌, ℕ, Bool, List, IfOk, OnErr, OnOk, Option, Some, false, flat_map, option_copied, true};
 ghost use Rattle.std.specs.Io.KnownBytes.{Appends};
-ghost use Rattle.std.specs.Option.{option_map_or};
-ghost use Rattle.packtool_commands.specs.Stores.{answer_of, answers_by, are_answers_by, found_text, front_text, is_found, with_found};
+ghost use Rattle.std.specs.Option.{option_map_or, option_or};
+ghost use Rattle.packtool_commands.specs.Stores.{answer_of, answers_by, found_text, front_text, no_answer, no_answer_by, with_found};
+ghost use Rattle.packtool_commands.specs.declared.printing.NoAnswer.{NoAnswer};
 ghost use Rattle.streams.specs.Streams.{AppendsPart, Wrote, lines_of};
 
 use crate::prefixes::{Line, PrefixLines};
 use std::alloc::Allocator;
 use streams::{Sink, WriteFailed, write_all};
+use thiserror::Error as ThisError;
 
 /// What [`find_each`](crate::find_each) and [`locate_each`](crate::locate_each) print for a prefix.
+/// The first two say of a line that has no answer why it has none, and the others print nothing for
+/// a prefix that has none.
 ///
 /// ```
 /// let lines = PrefixLines::read(rt.alloc(), Kind::Sha1, b"4b8\n4b9\n")?;
@@ -22,6 +26,31 @@ pub enum Answers {
     All,
     /// The one id that begins with it.
     One,
+    /// Each id that begins with it.
+    Bare,
+    /// The one id that begins with it.
+    BareOne,
+}
+
+/// Why a line has no answer.
+///
+/// ```
+/// let why = find_each(rt.alloc(), &mut store, &lines, Answers::One, 65_536, &mut out)?;
+/// if why == Some(NoAnswer::Ambiguous) {
+///     println!(rt; "the first line that is no prefix of one id is one of several")?;
+/// }
+/// ```
+#[derive(Clone, Copy, PartialEq, Eq, Debug, ThisError)]
+pub enum NoAnswer {
+    /// No id begins with it.
+    #[error("missing")]
+    Missing,
+    /// Several ids begin with it, and one is asked for.
+    #[error("ambiguous")]
+    Ambiguous,
+    /// It is not a prefix.
+    #[error("bad")]
+    Bad,
 }
 
 /// How what is found for a prefix, a `T`, is printed.
@@ -29,8 +58,8 @@ pub(crate) trait AnswerForm<T> {
     /// What is printed for a line that is a prefix.
     ghost text: { Self → List ℕ → T → List ℕ };
 
-    /// Whether what was found is what is asked for.
-    ghost is_found: { Self → T → Bool };
+    /// Why what was found is no answer, if it is none.
+    ghost no_answer: { Self → T → Option NoAnswer };
 
     /// Writes what is printed for a line that is a prefix.
     fn write<W: Sink>(&self, line: &[u8], found: &T, out: &mut W) -> Result<(), WriteFailed>
@@ -38,38 +67,38 @@ pub(crate) trait AnswerForm<T> {
         ensures { Wrote W.taken W.has_failed out.old out.new result
             (text self.now line.now found.now) };
 
-    /// Whether what was found is what is asked for.
-    fn is_found(&self, found: &T) -> bool
-        ensures { result ≡ is_found self.now found.now };
+    /// Why what was found is no answer, if it is none.
+    fn no_answer(&self, found: &T) -> Option<NoAnswer>
+        ensures { result ≡ no_answer self.now found.now };
 }
 
 /// Writes what is printed for each of some lines, by what was found for each prefix among them.
-/// Returns whether each found what is asked for.
+/// Returns why the first that has no answer has none.
 pub(crate) fn write_answers<T, A: Allocator, F: AnswerForm<T>, W: Sink>(
     lines: &PrefixLines<'_, A>,
     found: &[T],
     form: &F,
     out: &mut W,
-) -> Result<bool, WriteFailed>
+) -> Result<Option<NoAnswer>, WriteFailed>
     requires { W.has_failed out.old ≡ false }
     ensures written { OnOk result (Appends (W.taken out.old) (W.taken out.new) (answers_by
         (F.text form.now) lines.now.kind (lines_of lines.now.text.now) found.now)) }
-    ensures all { IfOk result (λ all. all ≡ are_answers_by (F.is_found form.now) lines.now.kind
+    ensures why { IfOk result (λ why. why ≡ no_answer_by (F.no_answer form.now) lines.now.kind
         (lines_of lines.now.text.now) found.now) }
     ensures not_failed { OnOk result (W.has_failed out.new ≡ false) }
     ensures part { OnErr result (AppendsPart (W.taken out.old) (W.taken out.new) (answers_by
         (F.text form.now) lines.now.kind (lines_of lines.now.text.now) found.now)) }
     ensures failed { OnErr result (W.has_failed out.new ≡ true) }
 {
-    let mut all = true;
+    let mut why = None;
     let mut left = found;
     for line in &lines.lines {
         let (answer, after) = answer_to(line, left);
         write_answer(line.text, answer, form, out)?;
-        all = are_wanted(all, answer, form);
+        why = why.or(no_answer_in(answer, form));
         left = after;
     }
-    Ok(all)
+    Ok(why)
 }
 
 // What was found for a line, if it is a prefix, and for those after it.
@@ -102,14 +131,14 @@ fn write_answer<T, F: AnswerForm<T>, W: Sink>(
     }
 }
 
-// Whether what was found for the lines before one is what is asked for, and for it.
-fn are_wanted<T, F: AnswerForm<T>>(before: bool, answer: Option<&T>, form: &F) -> bool
-    ensures { result ≡ (before
-        && option_map_or (F.is_found form.now) (option_copied answer.entry) false) }
+// Why what was found for a line is no answer, if it is none.
+fn no_answer_in<T, F: AnswerForm<T>>(answer: Option<&T>, form: &F) -> Option<NoAnswer>
+    ensures { result ≡ option_map_or (F.no_answer form.now) (option_copied answer.entry)
+        (Some NoAnswer.Bad) }
 {
     match answer {
-        Some(found) => before && form.is_found(found),
-        None => false,
+        Some(found) => form.no_answer(found),
+        None => Some(NoAnswer::Bad),
     }
 }
 
@@ -142,7 +171,7 @@ pub(crate) struct ListForm<F> {
 impl<X, A: Allocator, F: ItemForm<X>> AnswerForm<Vec<X, A>> for ListForm<F> {
     ghost text = { λ form line ids. found_text (F.text form.item) form.answers line ids.items };
 
-    ghost is_found = { λ form found. is_found form.answers found.items };
+    ghost no_answer = { λ form found. no_answer form.answers found.items };
 
     fn write<W: Sink>(
         &self,
@@ -153,10 +182,13 @@ impl<X, A: Allocator, F: ItemForm<X>> AnswerForm<Vec<X, A>> for ListForm<F> {
         write_found(line, found, self.answers, &self.item, out)
     }
 
-    fn is_found(&self, found: &Vec<X, A>) -> bool {
+    fn no_answer(&self, found: &Vec<X, A>) -> Option<NoAnswer> {
+        if found.is_empty() {
+            return Some(NoAnswer::Missing);
+        }
         match self.answers {
-            Answers::All => !found.is_empty(),
-            Answers::One => found.len() == 1,
+            Answers::One | Answers::BareOne if found.len() > 1 => Some(NoAnswer::Ambiguous),
+            _ => None,
         }
     }
 }
@@ -174,12 +206,19 @@ fn write_found<X, F: ItemForm<X>, W: Sink>(
         (found_text (F.text form.now) answers line.now found.now) }
 {
     if found.is_empty() {
+        if matches!(answers, Answers::Bare | Answers::BareOne) {
+            return Ok(());
+        }
         return write_two(line, b" missing\n", out);
     }
     match answers {
         Answers::All => write_each(Some(line), found, form, out),
-        Answers::One if found.len() == 1 => form.write_after(None, &found[0], out),
+        Answers::Bare => write_each(None, found, form, out),
+        Answers::One | Answers::BareOne if found.len() == 1 => {
+            form.write_after(None, &found[0], out)
+        }
         Answers::One => write_two(line, b" ambiguous\n", out),
+        Answers::BareOne => Ok(()),
     }
 }
 

@@ -3,9 +3,8 @@
 use crate::content::Content;
 use crate::expecting::expect;
 use crate::memory::{Memory, Reads};
-use gix_hash::Prefix;
 use object_store::Store;
-use packtool_commands::{StoreError, find, locate, names};
+use packtool_commands::{Answers, PrefixLines, StoreError, find_each, locate_each, names};
 use std::process::Abort;
 use std::test::Fail;
 use streams::{IntoSlice, Sink};
@@ -33,7 +32,7 @@ ffffff ffffffffffffffffffffffffffffffffffffffff
 // More than are made when a store is opened and all of it is read.
 const AMPLE: usize = 10_000;
 
-// What is asked for.
+// What is asked for: of a prefix alone, or of all ids.
 #[derive(Clone, Copy)]
 enum Asked {
     Find(&'static str),
@@ -54,12 +53,14 @@ fn run(
         assert!(rt; kind.len_in_hex() >= 6);
         return names(rt.alloc(), store, 6, out);
     };
-    let prefix = Prefix::from_hex_in(kind, prefix).expect(rt, "no prefix");
-    assert!(rt; prefix.hex_len() >= 2);
-    match asked {
-        Asked::Find(_) => find(rt.alloc(), store, &prefix, out),
-        _ => locate(rt.alloc(), store, &prefix, out),
-    }
+    // A single prefix may find more than this.
+    let most = 0;
+    let lines = PrefixLines::read(rt.alloc(), kind, prefix.as_bytes())?;
+    let why = match asked {
+        Asked::Find(_) => find_each(rt.alloc(), store, &lines, Answers::Bare, most, out),
+        _ => locate_each(rt.alloc(), store, &lines, Answers::Bare, most, out),
+    };
+    Ok(why?.is_none())
 }
 
 // Whether a run ends so that writes this many bytes of the text, with this many reads and this much

@@ -5,7 +5,9 @@ use crate::expecting::{expect, text_of};
 use crate::memory::{Memory, Reads};
 use linked_list_allocator::LocalHeap;
 use object_store::Store;
-use packtool_commands::{Answers, PrefixLines, StoreError, find_each, locate_each, name_each};
+use packtool_commands::{
+    Answers, NoAnswer, PrefixLines, StoreError, find_each, locate_each, name_each,
+};
 use std::alloc::{AllocError, Allocator, Global};
 use std::process::Abort;
 use std::test::Fail;
@@ -84,8 +86,8 @@ enum Asked {
     Names,
 }
 
-// What is asked for of which lines, whether each line finds it, and what is printed.
-const ROWS: [(Asked, &str, bool, &str); 9] = [
+// What is asked for of which lines, whether each line has an answer, and what is printed.
+const ROWS: [(Asked, &str, bool, &str); 10] = [
     (Asked::Find(Answers::All), LINES, false, FOUND),
     (Asked::Find(Answers::One), LINES, false, FOUND_ONE),
     (Asked::Locate(Answers::All), LINES, false, LOCATED),
@@ -105,6 +107,7 @@ const ROWS: [(Asked, &str, bool, &str); 9] = [
     ),
     (Asked::Names, "4b9\nff", true, "4b9000\nffffff\n"),
     (Asked::Locate(Answers::One), "4b\n", false, "4b ambiguous\n"),
+    (Asked::Find(Answers::BareOne), "4b8", false, ""),
 ];
 
 // More than are made when a store is opened and all of it is read.
@@ -120,7 +123,7 @@ fn run<A: Allocator + Copy>(
     (asked, lines): (Asked, &str),
     store: &mut Memory<'_>,
     out: &mut IntoSlice<'_>,
-) -> Result<bool, StoreError> {
+) -> Result<Option<NoAnswer>, StoreError> {
     assert!(rt; !out.failed());
     let lines = PrefixLines::read(alloc, store.object_hash(), lines.as_bytes())?;
     match asked {
@@ -148,7 +151,7 @@ fn expect_printed(
     let mut buf = [0; 1024];
     let mut out = IntoSlice::new(buf.get_mut(..room).ok_or("no room")?);
     let is_right = match run(rt, rt.alloc(), (asked, lines), &mut store, &mut out) {
-        Ok(found) => found == all && printed == text.len(),
+        Ok(why) => why.is_none() == all && printed == text.len(),
         Err(StoreError::Output) => room < text.len(),
         Err(StoreError::TooMany) => false,
         Err(StoreError::Store(_)) => left < AMPLE && printed == 0,
@@ -223,7 +226,7 @@ fn expect_many(
     buf.fill(0);
     let mut out = IntoSlice::new(&mut buf);
     let outcome = run(rt, rt.alloc(), (asked, lines.as_str()), store, &mut out);
-    expect!(rt; matches!(outcome, Ok(true)) && out.written() == want.as_bytes(), asked);
+    expect!(rt; matches!(outcome, Ok(None)) && out.written() == want.as_bytes(), asked);
     Ok(())
 }
 

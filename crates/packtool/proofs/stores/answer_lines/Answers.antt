@@ -21,7 +21,7 @@ loop-preserved g c =
           c.write_for_lines.new.self,
           before.3 ∙ ap (λ rest. before.0 ++ rest) c.first_lines.ensures.all ∙ sym (append_assoc before.0 _ _),
           λ _. refl,
-          (before.0, part, c.loop.status, w.in-Ok.own, before.2, _, before.5, rw (← same) w.in-Ok.ensures.answered, part_whole, refl, w.max-status.ensures),
+          (before.0, part, c.loop.status, w.in-Ok.ended.0, before.2, _, before.5, (w.in-Ok.ended.1, rw (← same) w.in-Ok.ensures.answered), part_whole, refl, w.max-status.ensures),
         ),
       )
       | in-Err-TooMany w ↦ rw (w.rest-is, w.status-is, w.in-Err-TooMany.ensures.untouched (ap Err w.in-Err-TooMany.field-0-is)) (

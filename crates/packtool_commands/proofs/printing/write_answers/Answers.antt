@@ -1,15 +1,15 @@
-use Rattle.gix_hash.proofs.Std.{◌≡◌, ◌∙◌, ◌&&◌, ◌++◌, ◌∷◌, ◌+◌, [], ℕ, List, Option, false, slice_index_or, rules, append-nil, append_assoc, ap, arith, drop, drop_all, drop_more, flat_map, list_all, map, option_copied, refl, sym, subst, flat_map-append, flat_map_more, Appends, Appends-trans}
-use Rattle.std.proofs.Math.Bool.{and-true}
-use Rattle.std.proofs.lemmas.List.Folds.{list_all-append}
-use Rattle.std.specs.Option.{option_map_or}
+use Rattle.gix_hash.proofs.Std.{◌≡◌, ◌∙◌, ◌++◌, ◌∷◌, ◌+◌, [], ℕ, List, None, Option, slice_index_or, rules, append-nil, append_assoc, ap, arith, drop, drop_all, drop_more, flat_map, map, option_copied, refl, sym, subst, flat_map-append, flat_map_more, Appends, Appends-trans}
+use Rattle.std.proofs.lemmas.List.Sums.{fold-append}
+use Rattle.std.specs.Option.{option_or}
+use Rattle.std.specs.Prelude.{fold}
 use Rattle.streams.specs.Streams.{AppendsPart}
 use Rattle.streams.proofs.WritingLemmas.{AppendsPart-after, AppendsPart-more, OnErr-of}
-use Rattle.packtool_commands.specs.Stores.{answer_of, answers_by, are_answers_by, with_found}
-use Rattle.packtool_commands.proofs.AnswerLemmas.{mark}
+use Rattle.packtool_commands.specs.Stores.{answer_of, answers_by, no_answer_by, with_found}
+use Rattle.packtool_commands.proofs.AnswerLemmas.{first_why, mark}
 use Rattle.packtool_commands.proofs.printing.write_answers.Goals as goal
 
 pub loop-line-init : goal.loop-line-init
-loop-line-init g c = record { before = []; parts = refl; written = search rules; verdict = refl; not_failed = c.requires }
+loop-line-init g c = record { before = []; parts = refl; written = search rules; first = refl; not_failed = c.requires }
 
 pub returns-in_err-write_answer-clause-part : goal.returns-in_err-write_answer-clause-part
 unfolding answers_by
@@ -37,14 +37,14 @@ returns-clause-written g c =
     let all = sym (append-nil i.before) ∙ ap (λ ls. i.before ++ with_found (map mark ls) c.loop-line.left.now) none ∙ i.parts ∙ ap (λ ls. with_found ls c.args.found.now) c.args.lines.now.are_lines in
     subst (Appends (g.W.Sink.taken c.args.out.now) (g.W.Sink.taken c.loop-line.out)) (ap (flat_map (answer_of (g.F.AnswerForm.text c.args.form.now))) all) i.written
 
-pub returns-clause-all : goal.returns-clause-all
-unfolding are_answers_by
-returns-clause-all g c =
+pub returns-clause-why : goal.returns-clause-why
+unfolding no_answer_by
+returns-clause-why g c =
     let i = c.loop-line.invariant in
     let items = c.args.lines.now.lines.items in
     let none : [] ≡ drop c.loop-line.line-index items = sym (drop_all c.loop-line.line-index items (omega (arith, c.loop-line-test.false, c.deref-line-items.ensures.len))) in
     let all = sym (append-nil i.before) ∙ ap (λ ls. i.before ++ with_found (map mark ls) c.loop-line.left.now) none ∙ i.parts ∙ ap (λ ls. with_found ls c.args.found.now) c.args.lines.now.are_lines in
-    i.verdict ∙ ap (list_all (λ answer. option_map_or (g.F.AnswerForm.is_found c.args.form.now) answer.1 false)) all
+    i.first ∙ ap (fold (first_why (g.F.AnswerForm.no_answer c.args.form.now)) None) all
 
 pub loop-line-preserved : goal.loop-line-preserved
 loop-line-preserved g c =
@@ -56,14 +56,14 @@ loop-line-preserved g c =
     let rest = map mark (drop (at + 1) seen) in
     let answer : List ℕ × Option g.row.T.Denot = ((slice_index_or seen at _).text.now, option_copied c.answer_to.result.0) in
     let step = ap (λ ls. with_found (map mark ls) c.loop-line.left.now) (drop_more seen at _ c.loop-line-test.true) ∙ c.answer_to.ensures rest in
-    let is_wanted = λ (a : List ℕ × Option g.row.T.Denot). option_map_or (g.F.AnswerForm.is_found c.args.form.now) a.1 false in
+    let later = first_why (g.F.AnswerForm.no_answer c.args.form.now) in
     record {
       before = i.before ++ answer ∷ [];
       parts = append_assoc i.before (answer ∷ []) _ ∙ ap (λ ls. i.before ++ answer ∷ with_found (map mark (drop (at + 1) ls)) c.answer_to.result.1.now) (sym same)
           ∙ ap (λ ls. i.before ++ ls) (sym step) ∙ ap (λ ls. i.before ++ with_found (map mark (drop at ls)) c.loop-line.left.now) same ∙ i.parts;
       written = subst (Appends (g.W.Sink.taken c.args.out.now) (g.W.Sink.taken c.write_answer.new.out)) (flat_map_more text [] i.before answer)
           (Appends-trans _ _ _ (flat_map text i.before) (text answer) i.written c.in_ok-write_answer.ensures.written);
-      verdict = c.are_wanted-all.ensures ∙ ap (λ b. b && is_wanted answer) i.verdict ∙ ap (λ b. list_all is_wanted i.before && b) (sym (and-true (is_wanted answer)))
-          ∙ sym (list_all-append is_wanted i.before (answer ∷ []));
+      first = c.or-why.ensures ∙ ap (λ why. option_or why c.no_answer_in.result) i.first ∙ ap (option_or (fold later None i.before)) c.no_answer_in.ensures
+          ∙ sym (fold-append later None i.before (answer ∷ []));
       not_failed = c.in_ok-write_answer.ensures.not_failed;
     }

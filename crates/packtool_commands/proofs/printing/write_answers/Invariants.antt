@@ -1,7 +1,7 @@
-use Rattle.gix_hash.proofs.Std.{◌≡◌, ◌++◌, ℕ, false, drop, flat_map, list_all, map, Appends, List, Option}
-use Rattle.std.specs.Option.{option_map_or}
+use Rattle.gix_hash.proofs.Std.{◌≡◌, ◌++◌, ℕ, false, drop, flat_map, map, Appends, List, None, Option}
+use Rattle.std.specs.Prelude.{fold}
 use Rattle.packtool_commands.specs.Stores.{answer_of, with_found}
-use Rattle.packtool_commands.proofs.AnswerLemmas.{mark}
+use Rattle.packtool_commands.proofs.AnswerLemmas.{first_why, mark}
 use Rattle.packtool_commands.proofs.printing.write_answers.Given as goal
 
 abbrev pub invariant-loop-line : goal.invariant-loop-line
@@ -9,6 +9,6 @@ invariant-loop-line g l = record {
   before : List (List ℕ × Option g.row.T.Denot);
   parts : before ++ with_found (map mark (drop l.line-index l.lines.lines.items)) l.left ≡ with_found (map mark l.lines.lines.items) l.found;
   written : Appends (g.W.Sink.taken l.fn.out) (g.W.Sink.taken l.out) (flat_map (answer_of (g.F.AnswerForm.text l.form)) before);
-  verdict : l.all ≡ list_all (λ a. option_map_or (g.F.AnswerForm.is_found l.form) a.1 false) before;
+  first : l.why ≡ fold (first_why (g.F.AnswerForm.no_answer l.form)) None before;
   not_failed : g.W.Sink.has_failed l.out ≡ false;
 }

@@ -21,6 +21,6 @@ look_up_again-looked-requires-clause-can g c = λ seen is. (
 pub returns-clause-found : goal.returns-clause-found
 returns-clause-found g c =
     moved (λ store (prefix : KindDigits) one. g.L.LookUp.finds c.args.look_up.now store prefix.digits one) _ c.look_up_again-looked.ensures.found.shows
-        (c.prefixes-prefixes.ensures.are ∙ ap (λ kind. prefixes_of kind (lines_of c.args.lines.now.text.now))
-        (c.requires.kind ∙ sym c.look_up_again-looked.ensures.reopened.kind))
-        (search rules)
+    (c.prefixes-prefixes.ensures.are ∙ ap (λ kind. prefixes_of kind (lines_of c.args.lines.now.text.now))
+    (c.requires.kind ∙ sym c.look_up_again-looked.ensures.reopened.kind))
+    (search rules)

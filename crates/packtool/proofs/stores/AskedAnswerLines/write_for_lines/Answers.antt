@@ -2,7 +2,7 @@ use Rattle.gix_hash.proofs.Std.{All, List, Some, subst, sym, ℕ, ◌≡◌}
 use Rattle.gix_hash.specs.Words.{KindDigits, first_byte_of}
 use Rattle.directory_store.specs.Stores.{only_of}
 use Rattle.directory_store.specs.declared.loose.LooseIds.{LooseIds}
-use Rattle.packtool.proofs.StatusLemmas.{kept-answer}
+use Rattle.packtool.proofs.StatusLemmas.{kept-found, status-of}
 use Rattle.packtool.proofs.stores.AskedAnswerLines.write_for_lines.Goals as goal
 
 -- what may be asked of a store where these loose objects are listed
@@ -17,5 +17,8 @@ ask_for_lines-ran-requires-clause-listed g c = are_of _ _ _ _ c.in_ok-store.ensu
 
 pub returns-clause-answered : goal.returns-clause-answered
 returns-clause-answered g c =
-    kept-answer _ _ _ _ _ c.ask_for_lines-ran.result c.status_of.result c.status_of.ensures.ran c.status_of.ensures.kept c.ask_for_lines-ran.ensures.answered
-    (λ all status is has. (all, is, rw (← c.in_ok-lines.ensures.text) has))
+    kept-found _ _ _ _ c.ask_for_lines-ran.result c.in_ok-kept.kept.0 c.in_ok-kept.ensures.ran c.in_ok-kept.ensures.kept c.ask_for_lines-ran.ensures.answered
+    (λ has. (
+      status-of _ c.in_ok-kept.kept.1 c.is_none.result c.in_ok-kept.kept.0 _ c.in_ok-kept.ensures.whole c.is_none.ensures c.status_if.ensures,
+      rw (← c.in_ok-lines.ensures.text) has,
+    ))
