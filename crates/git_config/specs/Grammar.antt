@@ -1,5 +1,5 @@
 -- The syntax of git-config(1), as config.c reads it. Bytes are 9 for a tab, 10 for a line feed, 13 for a carriage return, 32 for a space, 34 for a quotation mark, 35 for #, 45 for -, 46 for a dot, 59 for ;, 61 for =, 91 and 93 for brackets and 92 for a backslash.
-use Rattle.std.specs.Prelude.{◌≡◌, ℕ, ◌-◌, ◌+◌, Bool, true, false, ◌&&◌, ◌||◌, not, ◌==◌, if◌then◌else◌, Option, Some, None, Result, Ok, Err, List, [], ◌∷◌, ◌++◌, length, take, drop, map, bytes_eq, option_map, option_to_list, count_by}
+use Rattle.std.specs.Prelude.{◌≡◌, ℕ, ◌-◌, ◌+◌, Bool, true, false, ◌&&◌, ◌||◌, not, ◌==◌, if◌then◌else◌, Option, Some, None, Result, Ok, Err, List, [], ◌∷◌, ◌++◌, length, take, drop, map, bytes_eq, option_map, option_to_list, unwrap_or, count_by}
 use Rattle.std.specs.List.{after_first, before_first, prefix_len, take_while}
 use Rattle.std.specs.Char.{is_ascii_alphabetic, is_ascii_alphanumeric, to_ascii_lowercase}
 
@@ -26,6 +26,10 @@ is_space byte = byte == 32 || byte == 9
 abbrev pub is_blank : ℕ → Bool
 is_blank byte = is_space byte || byte == 13
 
+-- whether a byte is white space, as in Git's isspace: one of these or a line feed
+abbrev pub is_whitespace : ℕ → Bool
+is_whitespace byte = is_blank byte || byte == 10
+
 -- whether a comment begins with this byte
 abbrev pub begins_comment : ℕ → Bool
 begins_comment byte = byte == 35 || byte == 59
@@ -41,6 +45,10 @@ is_name_byte byte = is_key_byte byte || byte == 46
 -- a text without the bytes at its front that pass a test
 abbrev pub past : (ℕ → Bool) → List ℕ → List ℕ
 past test text = drop (prefix_len test text) text
+
+-- the rest of a text after these bytes, if it begins with them
+abbrev pub after_prefix : List ℕ → List ℕ → Option (List ℕ)
+after_prefix bytes text = if bytes_eq (take (length bytes) text) bytes then Some (drop (length bytes) text) else None
 
 -- a text without its first line
 abbrev pub after_line : List ℕ → List ℕ
@@ -133,7 +141,7 @@ variable name text = assignment (past is_space (past is_key_byte text)) >>= λ r
 -- what a text in a section begins with, white space, a comment, a header or a variable: the section after it, and the variable if it is one
 abbrev pub item : List ℕ → ℕ → List ℕ → Read (List ℕ × Option Variable)
 item section byte rest =
-    if is_blank byte || byte == 10 then Ok ((section, None), rest) else
+    if is_whitespace byte then Ok ((section, None), rest) else
     if begins_comment byte then Ok ((section, None), after_line rest) else
     if byte == 91 then (header rest >>= λ read. Ok ((read.0, None), read.1)) else
     if is_ascii_alphabetic byte then (variable (section ++ to_ascii_lowercase byte ∷ []) rest >>= λ read. Ok ((section, Some read.0), read.1)) else Err (length rest + 1)
@@ -146,7 +154,7 @@ pub data Reads : List ℕ → List ℕ → List Variable → Option ℕ → Type
 
 -- a text without a byte order mark at its front
 abbrev pub without_mark : List ℕ → List ℕ
-without_mark text = if bytes_eq (take 3 text) (239 ∷ 187 ∷ 191 ∷ []) then drop 3 text else text
+without_mark text = unwrap_or (after_prefix (239 ∷ 187 ∷ 191 ∷ []) text) text
 
 -- the number of the line, from 1, in which Git stops if this many bytes are left of the text and a line feed after it
 abbrev pub line_number : List ℕ → ℕ → ℕ
