@@ -23,13 +23,13 @@ abbrev pub IfKnown : (Answers → Type 0) → Option Answers → Type 0
 IfKnown P known = (at : Answers) → known ≡ Some at → P at
 
 -- what a call returned is this answer, unless memory ran out
-abbrev pub IsAnswer : {X Y : Type 0} → (X → Y) → Result X IoError → Result Y ErrorKind → Type 0
-IsAnswer view (Ok x) answer = answer ≡ Ok (view x)
-IsAnswer view (Err error) answer = error_kind error ≢ OutOfMemory → answer ≡ Err (error_kind error)
+abbrev pub IsCallAnswer : {X Y : Type 0} → (X → Y) → Result X IoError → Result Y ErrorKind → Type 0
+IsCallAnswer view (Ok x) answer = answer ≡ Ok (view x)
+IsCallAnswer view (Err error) answer = error_kind error ≢ OutOfMemory → answer ≡ Err (error_kind error)
 
 -- what a call returned is this answer, if the answers are known, unless memory ran out
 abbrev pub Answered : {X Y : Type 0} → (X → Y) → Result X IoError → (Answers → Result Y ErrorKind) → Option Answers → Type 0
-Answered view result answer = IfKnown (λ at. IsAnswer view result (answer at))
+Answered view result answer = IfKnown (λ at. IsCallAnswer view result (answer at))
 
 -- whether an error says that memory ran out
 abbrev pub is_memory : Error → Bool

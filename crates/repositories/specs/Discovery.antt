@@ -2,13 +2,14 @@
 use Rattle.std.specs.Prelude.{◌≡◌, ◌⊎◌, ℕ, zero, suc, ◌&&◌, ◌||◌, ◌-◌, ◌==◌, Bool, false, if◌then◌else◌, Option, Some, None, Ok, Err, List, [], bytes_eq, codes, drop, length, map, nat_eq, option_and_then, option_map, string_bytes, take, unwrap_or}
 use Rattle.std.specs.List.{starts_with, suffix_len}
 use Rattle.std.specs.Path.{path_join, path_parent}
+use Rattle.std.specs.Result.{result_ok}
 use Rattle.gix_hash.specs.declared.Kind.{Kind}
 use Rattle.gix_hash.specs.declared.Kind.TheVariants.{Sha1}
 use Rattle.repositories.specs.Alternates.{paths_named}
 use Rattle.repositories.specs.Answers.{◌>>=◌, Answers}
 use Rattle.repositories.specs.Formats.{Says}
 use Rattle.repositories.specs.Heads.{is_head}
-use Rattle.repositories.specs.Lookups.{answered, if_there, is_file, is_directory, is_no_link, number_of, real_directory}
+use Rattle.repositories.specs.Lookups.{file_number_at, if_there, is_file, is_directory, is_no_link, real_directory}
 use Rattle.repositories.specs.declared.finding.ObjectDirectory.{ObjectDirectory}
 use Rattle.repositories.specs.declared.repository.Environment.{Environment}
 
@@ -45,12 +46,12 @@ named_by path at = if_there (at.text path) >>= λ text. option_and_then after_gi
 abbrev pub common_of : List ℕ → Answers → Option (List ℕ)
 common_of directory at = if_there (at.text (path_join directory (codes "commondir"))) >>= λ text. elim text [
   | None ↦ Some directory
-  | Some name ↦ if length name == 0 then None else (answered (real_directory (path_join directory (without_line_ends name)) at) >>= λ real. Some real.0)
+  | Some name ↦ if length name == 0 then None else option_map (λ real. real.0) (result_ok (real_directory (path_join directory (without_line_ends name)) at))
 ]
 
--- the common directory: that of the environment, or else that of a directory
-abbrev pub common_at : Environment → List ℕ → Answers → Option (List ℕ)
-common_at given directory at = elim given.common_dir [ Some common ↦ Some (string_bytes common) | None ↦ common_of directory at ]
+-- the common directory of a directory, but that of the environment if it names one
+abbrev pub common_directory : Environment → List ℕ → Answers → Option (List ℕ)
+common_directory given directory at = elim given.common_dir [ Some common ↦ Some (string_bytes common) | None ↦ common_of directory at ]
 
 -- whether the object directory of the environment is there, or else that of a directory
 abbrev pub has_objects : Environment → List ℕ → Answers → Option Bool
@@ -63,7 +64,7 @@ has_both given directory at = has_objects given directory at >>= λ has. if has 
 -- the repository that is a directory, by its common directory
 abbrev pub repository_at : Environment → List ℕ → Answers → Option (Option (List ℕ))
 repository_at given directory at = has_head directory at >>= λ has.
-    if has then (common_at given directory at >>= λ common. has_both given common at >>= λ both. if both then Some (Some common) else Some None) else Some None
+    if has then (common_directory given directory at >>= λ common. has_both given common at >>= λ both. if both then Some (Some common) else Some None) else Some None
 
 -- the directory that is there, or that a gitfile names
 abbrev pub directory_at : List ℕ → Answers → Option (List ℕ)
@@ -101,18 +102,14 @@ first_above given zero directory at = Some None
 first_above given (suc n) directory at = or_next (repository_in given directory at)
     (elim (path_parent directory) [ None ↦ Some None | Some above ↦ first_above given n above at ])
 
--- a repository in the current directory, which is its top
-abbrev pub without_top : Option (Option Repository) → Option (Option Repository)
-without_top found = found >>= λ found. Some (option_map (λ found. record { directory = found.directory; top = [] }) found)
-
 -- the repository of the current directory, which is then its top, or of the first directory above it that has one. A path has at most 4096 bytes, two for each directory
 abbrev pub find_from : Environment → List ℕ → Answers → Option (Option Repository)
-find_from given here at = or_next (without_top (repository_in given here at))
+find_from given here at = or_next (repository_in given here at >>= λ found. Some (option_map (λ found. record { directory = found.directory; top = [] }) found))
     (elim (path_parent here) [ None ↦ Some None | Some above ↦ first_above given 2048 above at ])
 
 -- whether two paths lead to the same directory, as the root and the one above it do
 abbrev pub is_highest : List ℕ → List ℕ → Answers → Option Bool
-is_highest directory above at = number_of directory at >>= λ number. number_of above at >>= λ other. Some (number.dev == other.dev && number.ino == other.ino)
+is_highest directory above at = file_number_at directory at >>= λ number. file_number_at above at >>= λ other. Some (number.dev == other.dev && number.ino == other.ino)
 
 -- the repository of the first of so many directories, from this one upwards, that has one: by relative paths, where the path of the current directory is not UTF-8
 unfoldable pub find_above : Environment → ℕ → List ℕ → Answers → Option (Option Repository)

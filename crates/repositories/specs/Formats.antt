@@ -1,8 +1,8 @@
 -- What the variables of a config (git-config) say of a repository's format and its ids, as setup.c reads them.
-use Rattle.std.specs.Prelude.{◌≡◌, ℕ, ◌&&◌, ◌||◌, not, if◌then◌else◌, Option, Some, None, Result, Ok, Err, List, [], ◌∷◌, take, drop, find, map, codes, bytes_eq, option_and_then, option_map, unwrap_or, is_some, ℤ, pos, negsuc, int_lt, string_bytes, IfSome}
+use Rattle.std.specs.Prelude.{◌≡◌, ℕ, ◌&&◌, ◌||◌, not, if◌then◌else◌, Option, Some, None, Result, Ok, Err, List, [], ◌∷◌, find, map, codes, bytes_eq, option_and_then, option_map, unwrap_or, is_some, ℤ, pos, negsuc, int_lt, string_bytes, IfSome}
 use Rattle.std.specs.Option.{option_or}
 use Rattle.std.specs.Str.Lossy.{utf8_lossy}
-use Rattle.git_config.specs.Grammar.{IsConfig}
+use Rattle.git_config.specs.Grammar.{IsConfig, after_prefix}
 use Rattle.git_config.specs.Values.{is_boolean, number}
 use Rattle.git_config.specs.Views.{said}
 use Rattle.git_config.specs.declared.Variable.{Variable}
@@ -39,15 +39,11 @@ known names name = find (λ known. bytes_eq name known) names
 
 -- the name of an extension that a variable sets
 abbrev pub extension : List ℕ → Option (List ℕ)
-extension name = if bytes_eq (take 11 name) (codes "extensions.") then Some (drop 11 name) else None
+extension name = after_prefix (codes "extensions.") name
 
 -- the value of a variable, if it has this name
 abbrev pub value_named : List ℕ → Variable → Option (List ℕ)
 value_named name variable = if bytes_eq variable.name.items name then (said variable).value else None
-
--- the kind of this name
-abbrev pub kind_named : List ℕ → Option Kind
-kind_named text = if bytes_eq text (codes "sha1") then Some Sha1 else if bytes_eq text (codes "sha256") then Some Sha256 else None
 
 -- the version that a variable sets
 abbrev pub version_of : Variable → Option ℤ
@@ -55,7 +51,8 @@ version_of variable = option_and_then number (value_named (codes "core.repositor
 
 -- the kind that a variable sets
 abbrev pub kind_of : Variable → Option Kind
-kind_of variable = option_and_then kind_named (value_named (codes "extensions.objectformat") variable)
+kind_of variable = option_and_then (λ text. if bytes_eq text (codes "sha1") then Some Sha1 else if bytes_eq text (codes "sha256") then Some Sha256 else None)
+    (value_named (codes "extensions.objectformat") variable)
 
 -- the extension that a variable sets, if only version 1 has it
 abbrev pub needs_of : Variable → Option (List ℕ)

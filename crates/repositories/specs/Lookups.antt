@@ -1,5 +1,6 @@
 -- What a call on a path says of what is there.
-use Rattle.std.specs.Prelude.{ℕ, Bool, false, true, if◌then◌else◌, List, None, Ok, Err, Option, Result, Some}
+use Rattle.std.specs.Prelude.{ℕ, Bool, false, true, if◌then◌else◌, List, None, Ok, Err, Option, Result, Some, option_map}
+use Rattle.std.specs.Result.{result_ok}
 use Rattle.std.specs.declared.io.ErrorKind.{ErrorKind}
 use Rattle.std.specs.declared.io.ErrorKind.TheVariants.{InvalidFilename, InvalidInput, NotADirectory, NotFound}
 use Rattle.repositories.specs.Answers.{◌>>=◌, Answers}
@@ -17,11 +18,6 @@ abbrev pub is_no_link : ErrorKind → Bool
 is_no_link InvalidInput = true
 is_no_link InvalidFilename = true
 is_no_link kind = is_missing kind
-
--- what a call answered
-abbrev pub answered : {T : Type 0} → Result T ErrorKind → Option T
-answered (Ok found) = Some found
-answered (Err kind) = None
 
 -- what a call answered, or none if there is nothing
 abbrev pub if_there : {T : Type 0} → Result T ErrorKind → Option (Option T)
@@ -45,19 +41,19 @@ is_directory = leads_to (λ found. found.is_directory)
 abbrev pub is_file : List ℕ → Answers → Option Bool
 is_file = leads_to (λ found. found.is_file)
 
--- the number of what was found
-abbrev pub number_in : Found → FileNumber
-number_in found = record { dev = found.state.dev; ino = found.state.ino }
+-- the number of what was found, with that of its file system
+abbrev pub file_number_in : Found → FileNumber
+file_number_in found = record { dev = found.state.dev; ino = found.state.ino }
 
 -- the number of what a path leads to
-abbrev pub number_of : List ℕ → Answers → Option FileNumber
-number_of path at = answered (at.look path) >>= λ found. Some (number_in found)
+abbrev pub file_number_at : List ℕ → Answers → Option FileNumber
+file_number_at path at = option_map file_number_in (result_ok (at.look path))
 
 -- the directory that a look found, by its path, with its number if that is wanted
 abbrev pub if_directory : Bool → List ℕ → Result Found ErrorKind → Result (List ℕ × Option FileNumber) ErrorKind
 if_directory is_numbered path (Err kind) = Err kind
 if_directory is_numbered path (Ok found) =
-    if found.is_directory then Ok (path, (if is_numbered then Some (number_in found) else None)) else Err NotADirectory
+    if found.is_directory then Ok (path, (if is_numbered then Some (file_number_in found) else None)) else Err NotADirectory
 
 -- the directory at the absolute path that was answered; or, if that is not UTF-8, at the path itself, with its number
 abbrev pub if_real : List ℕ → Answers → Result (List ℕ) ErrorKind → Result (List ℕ × Option FileNumber) ErrorKind
@@ -65,6 +61,6 @@ if_real path at (Ok real) = if_directory false real (at.look real)
 if_real path at (Err InvalidFilename) = if_directory true path (at.look path)
 if_real path at (Err kind) = Err kind
 
--- the directory that a path leads to: by its absolute path without links; or, if that is not UTF-8, by the path itself, with its number
+-- the directory that a path leads to, by its absolute path without links
 abbrev pub real_directory : List ℕ → Answers → Result (List ℕ × Option FileNumber) ErrorKind
 real_directory path at = if_real path at (at.real path)

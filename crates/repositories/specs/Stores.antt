@@ -1,12 +1,9 @@
 -- Whether a directory is an object directory, by what directories and files answer.
-use Rattle.std.specs.Prelude.{ℕ, ◌/◌, ◌%◌, ◌∷◌, [], zero, suc, Bool, true, false, if◌then◌else◌, Option, Some, None, List, codes, string_bytes}
+use Rattle.std.specs.Prelude.{ℕ, ◌/◌, ◌%◌, ◌∷◌, [], zero, suc, Bool, true, false, if◌then◌else◌, Option, Some, List, codes}
 use Rattle.std.specs.Path.{path_join}
 use Rattle.gix_hash.specs.Words.{hex_letter}
 use Rattle.repositories.specs.Answers.{◌>>=◌, Answers}
-use Rattle.repositories.specs.Discovery.{or_next}
 use Rattle.repositories.specs.Lookups.{is_directory, is_file}
-use Rattle.repositories.specs.declared.error.Cause.{Cause}
-use Rattle.repositories.specs.declared.error.Cause.TheVariants.{NoStoreButIn}
 
 infixr 10 ◌or_else◌
 -- whether a test or another one holds; the other one is only made if the first does not hold
@@ -17,7 +14,7 @@ test or_else other = test >>= λ holds. if holds then Some true else other
 abbrev pub hex_of : ℕ → List ℕ
 hex_of byte = hex_letter (byte / 16) ∷ hex_letter (byte % 16) ∷ []
 
--- whether a directory has one of the first so many fan-out directories, of which the last is looked at first
+-- whether a directory has a fan-out directory of a byte below this number; the highest is looked at first
 unfoldable pub has_fan_out : ℕ → List ℕ → Answers → Option Bool
 has_fan_out zero path at = Some false
 has_fan_out (suc byte) path at = is_directory (path_join path (hex_of byte)) at or_else has_fan_out byte path at
@@ -25,16 +22,3 @@ has_fan_out (suc byte) path at = is_directory (path_join path (hex_of byte)) at 
 -- whether a directory is an object directory: it has the directory pack, the file info/alternates or a fan-out directory
 unfoldable pub is_store : List ℕ → Answers → Option Bool
 is_store path at = is_directory (path_join path (codes "pack")) at or_else is_file (path_join path (codes "info/alternates")) at or_else has_fan_out 256 path at
-
--- a path, if an object directory is there
-unfoldable pub if_store : List ℕ → Answers → Option (Option (List ℕ))
-if_store path at = is_store path at >>= λ is. Some (if is then Some path else None)
-
--- the object directory of a repository or worktree at a path, if there is one
-abbrev pub store_in : List ℕ → Answers → Option (Option (List ℕ))
-store_in path at = or_next (if_store (path_join path (codes "objects")) at) (if_store (path_join path (codes ".git/objects")) at)
-
--- the object directory that an error names in the place of a directory that is none
-abbrev pub objects_in : Cause → Option (List ℕ)
-objects_in (NoStoreButIn path objects) = Some (string_bytes objects)
-objects_in _ = None

@@ -1,15 +1,12 @@
 -- An object directory and its alternates, as Git links them (object-file.c): by what directories and files answer.
-use Rattle.std.specs.Prelude.{◌≡◌, ◌<◌, ℕ, zero, suc, ◌++◌, ◌∷◌, ◌&&◌, ◌+◌, ◌==◌, [], Bool, Err, List, None, Ok, Option, Result, Some, bytes_eq, codes, if◌then◌else◌, length, map, option_map, String, string_bytes, unwrap_or}
-use Rattle.std.specs.Cmp.Lexicographic.{pointwise}
-use Rattle.std.specs.Global.{Global}
+use Rattle.std.specs.Prelude.{◌≡◌, ◌<◌, ℕ, zero, suc, ◌++◌, ◌∷◌, ◌&&◌, ◌+◌, ◌==◌, [], Bool, Err, List, None, Ok, Option, Some, bytes_eq, codes, if◌then◌else◌, length, map, option_map, option_to_list, string_bytes, unwrap_or}
 use Rattle.std.specs.List.{list_any}
 use Rattle.std.specs.Path.{path_join}
+use Rattle.std.specs.Result.{result_ok}
 use Rattle.std.specs.Str.{is_utf8}
-use Rattle.std.specs.declared.io.ErrorKind.{ErrorKind}
-use Rattle.std.specs.declared.time.Duration.{Duration}
 use Rattle.repositories.specs.Alternates.{paths_named}
 use Rattle.repositories.specs.Answers.{◌>>=◌, Answers}
-use Rattle.repositories.specs.Lookups.{answered, if_there, real_directory}
+use Rattle.repositories.specs.Lookups.{if_there, real_directory}
 use Rattle.repositories.specs.declared.files.FileNumber.{FileNumber}
 use Rattle.repositories.specs.declared.object_directories.ObjectDirectories.{ObjectDirectories}
 use Rattle.repositories.specs.declared.object_directories.Walk.{Walk as AWalk}
@@ -26,14 +23,9 @@ abbrev pub has : List ℕ × Option FileNumber → Walk → Bool
 has (path, Some number) walk = list_any (λ other. other.dev == number.dev && other.ino == number.ino) walk.numbers
 has (path, None) walk = list_any (λ other. bytes_eq other path) walk.paths
 
--- the numbers with that of a directory, if it has one
-abbrev pub numbers_with : List FileNumber → Option FileNumber → List FileNumber
-numbers_with numbers None = numbers
-numbers_with numbers (Some number) = numbers ++ number ∷ []
-
 -- the walk with a directory
 abbrev pub with_directory : List ℕ × Option FileNumber → Walk → Walk
-with_directory real walk = record { paths = walk.paths ++ real.0 ∷ []; numbers = numbers_with walk.numbers real.1; skipped = walk.skipped }
+with_directory real walk = record { paths = walk.paths ++ real.0 ∷ []; numbers = walk.numbers ++ option_to_list real.1; skipped = walk.skipped }
 
 -- the walk with a path that is skipped
 abbrev pub skip : Walk → Walk
@@ -77,16 +69,14 @@ with_paths directory (path ∷ paths) found = with_paths directory paths (with_p
 abbrev pub list_at : List ℕ → Walk → Answers → Option (Walk × List (List ℕ))
 list_at directory walk at = text_at (path_join directory (codes "info/alternates")) at >>= λ text. Some (with_paths directory (paths_named 10 text) (walk, []))
 
--- the walk with a directory, and the paths in its list; but none of them if it is there already, or if it is skipped, since it cannot be read or no level is left
-abbrev pub visited : ℕ → Result (List ℕ × Option FileNumber) ErrorKind → Walk → Answers → Option (Walk × List (List ℕ))
-visited levels (Err kind) walk at = Some (skip walk, [])
-visited levels (Ok real) walk at =
-    if has real walk then Some (walk, []) else if levels == 0 then Some (skip walk, [])
-    else (list_at real.0 walk at >>= λ found. Some (with_directory real found.0, found.1))
-
--- the same of the directory that a path leads to
+-- the walk with the directory that a path leads to, and the paths in its list. There are none if it is there already, or if it is skipped, since it cannot be read or no level is left
 abbrev pub visit : ℕ → List ℕ → Walk → Answers → Option (Walk × List (List ℕ))
-visit levels path walk at = visited levels (real_directory path at) walk at
+visit levels path walk at = elim (real_directory path at) [
+  | Err kind ↦ Some (skip walk, [])
+  | Ok real ↦
+      if has real walk then Some (walk, []) else if levels == 0 then Some (skip walk, [])
+      else (list_at real.0 walk at >>= λ found. Some (with_directory real found.0, found.1))
+]
 
 -- the walk after visits of some paths, one after the other
 abbrev pub each : (List ℕ → Walk → Answers → Option Walk) → List (List ℕ) → Walk → Answers → Option Walk
@@ -98,14 +88,10 @@ unfoldable pub visit_below : ℕ → List ℕ → Walk → Answers → Option Wa
 visit_below zero path walk at = visit 0 path walk at >>= λ found. Some found.0
 visit_below (suc levels) path walk at = visit (suc levels) path walk at >>= λ found. each (visit_below levels) found.1 found.0 at
 
--- the same with some paths
-abbrev pub visit_all : ℕ → List (List ℕ) → Walk → Answers → Option Walk
-visit_all levels = each (visit_below levels)
-
 -- an object directory, its alternates that the environment gives, and those of its list, each with its alternates, which are nested up to 5 times
 abbrev pub walk_from : List ℕ × Option FileNumber → List (List ℕ) → Walk → Answers → Option Walk
 walk_from real given walk at =
-    visit_all 6 given (with_directory real walk) at >>= λ walk. list_at real.0 walk at >>= λ found. visit_all 6 found.1 found.0 at
+    each (visit_below 6) given (with_directory real walk) at >>= λ walk. list_at real.0 walk at >>= λ found. each (visit_below 6) found.1 found.0 at
 
 -- some paths with this one in the place of the first
 abbrev pub with_first : List ℕ → List (List ℕ) → List (List ℕ)
@@ -114,7 +100,7 @@ with_first path (first ∷ rest) = path ∷ rest
 
 -- the paths of an object directory, as it was given, and of its alternates, and how many are skipped
 abbrev pub with_alternates : List ℕ → List (List ℕ) → Answers → Option (List (List ℕ) × ℕ)
-with_alternates objects given at = answered (real_directory objects at) >>= λ real.
+with_alternates objects given at = result_ok (real_directory objects at) >>= λ real.
     walk_from real given (record { paths = []; numbers = []; skipped = 0 }) at >>= λ walk. Some (with_first objects walk.paths, walk.skipped)
 
 -- a walk of the code
@@ -124,21 +110,3 @@ walk_of walk = record { paths = map string_bytes walk.found.paths.items; numbers
 -- the paths that a walk found, and how many were skipped
 abbrev pub directories_of : ObjectDirectories → List (List ℕ) × ℕ
 directories_of directories = (map string_bytes directories.paths.items, length directories.skipped.items)
-
--- whether paths are the same, one by one
-abbrev pub are_same_paths : List (String Global) → List (String Global) → Bool
-are_same_paths = pointwise (λ path other. bytes_eq (string_bytes path) (string_bytes other))
-
--- whether two times are the same
-abbrev pub is_same_time : Duration → Duration → Bool
-is_same_time time other = time.secs == other.secs && time.nanos == other.nanos
-
--- whether two states are the same
-abbrev pub is_same_state : FileState → FileState → Bool
-is_same_state state other =
-    state.missing == other.missing && state.dev == other.dev && state.ino == other.ino && state.size == other.size
-    && is_same_time state.modified other.modified && is_same_time state.changed other.changed
-
--- whether states are the same, one by one
-abbrev pub are_same_states : List FileState → List FileState → Bool
-are_same_states = pointwise is_same_state

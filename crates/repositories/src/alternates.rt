@@ -3,7 +3,7 @@
 ghost use Rattle.std.specs.Prelude.{◌≡◌, ◌==◌, ◌-◌, ◌<◌, ◌≤◌, ◌++◌, IfOk, IfSome, OnOk, drop, length, map, option_map, position};
 ghost use Rattle.std.specs.List.{after_first, before_first};
 ghost use Rattle.std.specs.Option.{option_copied};
-ghost use Rattle.repositories.specs.Alternates.{first_path, is_comment, named, paths_named};
+ghost use Rattle.repositories.specs.Alternates.{first_path, paths_named, paths_of_entry};
 ghost use Rattle.repositories.specs.Quoting.{after_mark, quoted_byte, unescaped, unescaped_byte, unquoted};
 
 use std::alloc::{AllocError, Allocator};
@@ -36,19 +36,19 @@ pub fn alternate_paths<A: Allocator + Copy>(
     let (mut left, _) = split_line(list, 0);
     while !left.is_empty() {
         let (path, rest) = first_path(alloc, left, separator)?;
-        push_path(&mut paths, path)?;
+        push_entry(&mut paths, path)?;
         left = rest;
     }
     Ok(paths)
 }
 
-// Adds a path up to its first NUL, unless the path is empty.
-fn push_path<A: Allocator>(
+// Adds the path of an entry up to its first NUL, unless the path is empty.
+fn push_entry<A: Allocator>(
     paths: &mut Vec<Vec<u8, A>, A>,
     mut path: Vec<u8, A>,
 ) -> Result<(), AllocError>
     ensures { OnOk result (map (λ path. path.items) paths.new.items
-        ≡ map (λ path. path.items) paths.old.items ++ named path.items) }
+        ≡ map (λ path. path.items) paths.old.items ++ paths_of_entry path.items) }
 {
     if !path.is_empty() {
         if let Some(at) = position_of(&path, 0) {
@@ -75,18 +75,11 @@ fn first_path<A: Allocator + Copy>(
         return Ok((path, after_one(rest)));
     }
     let (line, rest) = split_line(list, separator);
-    if is_comment(line) {
+    if line.starts_with(b"#") {
         Ok((Vec::new(alloc), rest))
     } else {
         Ok((line.to_vec(alloc)?, rest))
     }
-}
-
-// Whether a line is a comment.
-fn is_comment(line: &[u8]) -> bool
-    ensures { result ≡ is_comment line.now }
-{
-    matches!(line, [b'#', ..])
 }
 
 // All bytes but the first, if there is one.

@@ -3,11 +3,12 @@
 ghost use Rattle.std.specs.Prelude.{◌≡◌, ◌≢◌, ◌↔◌, ◌++◌, ◌∷◌, [], IfErr, IfOk, IsErr, IsTrue, None, Ok, Some, false, if◌then◌else◌, map, option_copied, string_bytes, true, unwrap_or};
 ghost use Rattle.std.specs.IoError.{error_kind};
 ghost use Rattle.std.specs.Path.{path_join, path_parent};
+ghost use Rattle.std.specs.Result.{result_ok};
 ghost use Rattle.std.specs.Str.{IsUtf8};
 ghost use Rattle.std.specs.declared.io.ErrorKind.{ErrorKind};
 ghost use Rattle.repositories.specs.Answers.{Answered, Finds, IfKnown, is_memory};
 ghost use Rattle.repositories.specs.Discovery.{ConfigSays, HasKind, HasKindBeside};
-ghost use Rattle.repositories.specs.Lookups.{answered, if_directory, if_found, is_file, is_directory, is_missing, real_directory};
+ghost use Rattle.repositories.specs.Lookups.{if_directory, if_found, is_file, is_directory, is_missing, real_directory};
 ghost use Rattle.repositories.specs.Views.{directory_of};
 
 use crate::config::kind_in_config;
@@ -158,7 +159,7 @@ fn if_directory<R: Directories>(
 
 // The directory that a path leads to, which has to be there. The error has the path.
 pub(crate) fn existing_directory<R: Directories>(rt: &R, path: &str) -> Result<RealDirectory, Error>
-    ensures { Finds directory_of result (λ at. answered (real_directory path.now at))
+    ensures { Finds directory_of result (λ at. result_ok (real_directory path.now at))
         (R.answers rt.now) }
 {
     match real_directory(rt, path) {

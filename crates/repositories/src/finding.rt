@@ -3,7 +3,7 @@
 ghost use Rattle.std.specs.Prelude.{◌≡◌, ◌++◌, ◌∷◌, suc, IfOk, OnOk, Some, [], map, option_copied, option_map, string_bytes, true};
 ghost use Rattle.repositories.specs.Answers.{Finds, IfKnown};
 ghost use Rattle.repositories.specs.Discovery.{HasKind, HasKindBeside, IsObjectDirectory, alternate_in, alternates_of, objects_of};
-ghost use Rattle.repositories.specs.Stores.{has_fan_out, hex_of, if_store, is_store, objects_in, store_in};
+ghost use Rattle.repositories.specs.Stores.{has_fan_out, hex_of, is_store};
 ghost use Rattle.repositories.specs.Views.{repository_of};
 
 use crate::alternates::alternate_paths;
@@ -253,7 +253,7 @@ fn hex_of(rt: &impl AllocGlobal, byte: u8) -> Result<String, AllocError>
     format!(in rt.alloc(); "{byte:02x}")
 }
 
-// Why a directory is no object directory.
+// Why a directory is not an object directory.
 fn no_store<R: Directories>(rt: &R, path: &str) -> Result<Error, Error> {
     let alloc = rt.alloc();
     match rt.look(path) {
@@ -263,37 +263,16 @@ fn no_store<R: Directories>(rt: &R, path: &str) -> Result<Error, Error> {
     }
 }
 
-// That a directory is no object directory, and the one that it has.
-fn no_store_but<R: Directories>(rt: &R, path: &str) -> Result<Cause, Error>
-    ensures { Finds objects_in result (store_in path.now) (R.answers rt.now) }
-{
-    let objects = store_in(rt, path)?;
+// That a directory is not an object directory, with the one that it has if it is a repository or a
+// worktree.
+fn no_store_but<R: Directories>(rt: &R, path: &str) -> Result<Cause, Error> {
+    for &name in &["objects", ".git/objects"] {
+        let objects = join(rt, path, name)?;
+        if is_store(rt, &objects)? {
+            let path = String::from_str(rt.alloc(), path)?;
+            return Ok(Cause::NoStoreButIn { path, objects });
+        }
+    }
     let path = String::from_str(rt.alloc(), path)?;
-    match objects {
-        Some(objects) => Ok(Cause::NoStoreButIn { path, objects }),
-        None => Ok(Cause::NoStore { path }),
-    }
-}
-
-// The object directory of a repository or worktree at a path, if there is one.
-fn store_in<R: Directories>(rt: &R, path: &str) -> Result<Option<String>, Error>
-    ensures { Finds (option_map string_bytes) result (store_in path.now) (R.answers rt.now) }
-{
-    match if_store(rt, join(rt, path, "objects")?)? {
-        Some(objects) => Ok(Some(objects)),
-        None => if_store(rt, join(rt, path, ".git/objects")?),
-    }
-}
-
-// A path, if an object directory is there.
-#[tactic(auto, unfolding(crate::specs::Stores::if_store))]
-fn if_store<R: Directories>(rt: &R, path: String) -> Result<Option<String>, Error>
-    ensures { Finds (option_map string_bytes) result (if_store (string_bytes path))
-        (R.answers rt.now) }
-{
-    if is_store(rt, &path)? {
-        Ok(Some(path))
-    } else {
-        Ok(None)
-    }
+    Ok(Cause::NoStore { path })
 }

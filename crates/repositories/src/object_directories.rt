@@ -1,12 +1,12 @@
-//! An object directory and its alternates.
+//! Finds an object directory and its alternates.
 
-ghost use Rattle.std.specs.Prelude.{◌≡◌, ◌≢◌, ◌&&◌, [], IfOk, OnOk, Some, codes, map, string_bytes};
+ghost use Rattle.std.specs.Prelude.{◌≡◌, ◌≢◌, [], IfOk, OnOk, Some, codes, map, string_bytes};
 ghost use Rattle.std.specs.IoError.{error_kind};
 ghost use Rattle.std.specs.Path.{path_join};
 ghost use Rattle.std.specs.declared.io.ErrorKind.{ErrorKind};
 ghost use Rattle.repositories.specs.Answers.{IfKnown};
 ghost use Rattle.repositories.specs.Views.{directory_of};
-ghost use Rattle.repositories.specs.Walks.{IsStateOf, are_same_paths, are_same_states, directories_of, has, list_at, or_here, skip, text_at, visit, visit_all, walk_from, walk_of, with_alternates, with_first, with_directory, with_path, with_paths};
+ghost use Rattle.repositories.specs.Walks.{directories_of, each, has, list_at, skip, text_at, visit, visit_below, walk_from, walk_of, with_alternates, with_first, with_directory, with_path, with_paths};
 
 use crate::alternates::alternate_paths;
 use crate::directories::Directories;
@@ -58,17 +58,12 @@ impl ObjectDirectories {
             && state.is_missing()
             && objects.alternates.is_empty()
         {
-            return Ok(list_state(rt, &list_path(rt, &objects.path)?)? == *state);
+            let list = list_path(rt, &objects.path)?;
+            let now = FileState::of(rt, &list);
+            return Ok(now.map_err(|error| Error::file(rt.alloc(), &list, error))? == *state);
         }
-        Ok(self.are_same(&with_alternates(rt, objects)?))
-    }
-
-    // Whether others have the same paths and states.
-    fn are_same(&self, others: &ObjectDirectories) -> bool
-        ensures { result ≡ (are_same_paths self.now.paths.items others.now.paths.items
-            && are_same_states self.now.states.items others.now.states.items) }
-    {
-        self.paths == others.paths && self.states == others.states
+        let now = with_alternates(rt, objects)?;
+        Ok(self.paths == now.paths && self.states == now.states)
     }
 }
 
@@ -185,7 +180,7 @@ impl Walk {
         paths: &[String],
         levels: u8,
     ) -> Result<(), Error>
-        ensures { OnOk result (IfKnown (λ at. visit_all levels (map string_bytes paths.now)
+        ensures { OnOk result (IfKnown (λ at. each (visit_below levels) (map string_bytes paths.now)
             (walk_of self.old) at ≡ Some (walk_of self.new)) (R.answers rt.now)) }
     {
         for path in paths {
@@ -339,12 +334,4 @@ fn list_path(rt: &impl AllocGlobal, directory: &str) -> Result<String, AllocErro
         ≡ path_join directory.now (codes "info/alternates")) }
 {
     join(rt, directory, "info/alternates")
-}
-
-// The state of a list of alternates.
-fn list_state<R: Directories>(rt: &R, list: &str) -> Result<FileState, Error>
-    ensures { IfOk result (λ state. IfKnown (IsStateOf (or_here list.now) state)
-        (R.answers rt.now)) }
-{
-    FileState::of(rt, list).map_err(|error| Error::file(rt.alloc(), list, error))
 }

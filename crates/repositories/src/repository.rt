@@ -1,13 +1,14 @@
 //! Where a repository has its objects, references and config.
 
-ghost use Rattle.std.specs.Prelude.{◌≡◌, ◌≤◌, Some, length, option_copied, option_map, string_bytes, take};
+ghost use Rattle.std.specs.Prelude.{◌≡◌, ◌≤◌, IfOk, length, option_copied, option_map, string_bytes, take};
 ghost use Rattle.std.specs.Char.{is_ascii_hexdigit};
 ghost use Rattle.std.specs.IoError.{error_kind};
 ghost use Rattle.std.specs.List.{prefix_len};
-ghost use Rattle.repositories.specs.Answers.{Finds, IsFound};
-ghost use Rattle.repositories.specs.Discovery.{after_gitdir, common_at, common_of, find, find_above, find_from, first_above, directory_at, has_both, has_head, has_head_file, has_objects, is_highest, look_for, named_by, repository_at, repository_in, repository_of_worktree, required, without_line_ends};
-ghost use Rattle.repositories.specs.Heads.{begins_head, is_blank, is_head};
-ghost use Rattle.repositories.specs.Lookups.{is_no_link, number_of};
+ghost use Rattle.repositories.specs.Answers.{Finds};
+ghost use Rattle.repositories.specs.Discovery.{after_gitdir, common_directory, common_of, find, find_above, find_from, first_above, directory_at, has_both, has_head, has_head_file, has_objects, is_highest, look_for, named_by, repository_at, repository_in, repository_of_worktree, required, without_line_ends};
+ghost use Rattle.git_config.specs.Grammar.{is_whitespace};
+ghost use Rattle.repositories.specs.Heads.{is_head};
+ghost use Rattle.repositories.specs.Lookups.{file_number_at, is_no_link};
 ghost use Rattle.repositories.specs.Views.{repository_of};
 
 use crate::directories::Directories;
@@ -126,7 +127,7 @@ impl<R: Directories> Search<'_, R> {
             (look_for self.now.given.now (option_copied here.entry)) (R.answers self.now.rt.now) }
     {
         if let Some(path) = &self.given.dir {
-            return with_top(self.rt, self.required(path)?, "");
+            return Ok(Some(with_top(self.rt, self.required(path)?, "")?));
         }
         match here {
             Some(here) => self.find_from(here),
@@ -195,10 +196,10 @@ impl<R: Directories> Search<'_, R> {
             (repository_in self.now.given.now directory.now) (R.answers self.now.rt.now) }
     {
         if let Some(repository) = self.repository_of_worktree(directory)? {
-            return with_top(self.rt, repository, directory);
+            return Ok(Some(with_top(self.rt, repository, directory)?));
         }
         match self.repository_at(directory)? {
-            Some(repository) => with_top(self.rt, repository, ""),
+            Some(repository) => Ok(Some(with_top(self.rt, repository, "")?)),
             None => Ok(None),
         }
     }
@@ -249,7 +250,7 @@ impl<R: Directories> Search<'_, R> {
         if !has_head(self.rt, directory)? {
             return Ok(None);
         }
-        let common = self.common_at(directory)?;
+        let common = self.common_directory(directory)?;
         if self.has_both(&common)? {
             Ok(Some(common))
         } else {
@@ -257,9 +258,9 @@ impl<R: Directories> Search<'_, R> {
         }
     }
 
-    // The directory that the environment names as the common one, or else that of a directory.
-    fn common_at(&self, directory: &str) -> Result<String, Error>
-        ensures { Finds string_bytes result (common_at self.now.given.now directory.now)
+    // The common directory of a directory, but that of the environment if it names one.
+    fn common_directory(&self, directory: &str) -> Result<String, Error>
+        ensures { Finds string_bytes result (common_directory self.now.given.now directory.now)
             (R.answers self.now.rt.now) }
     {
         match &self.given.common_dir {
@@ -292,12 +293,12 @@ impl<R: Directories> Search<'_, R> {
 fn is_highest<R: Directories>(rt: &R, directory: &str, above: &str) -> Result<bool, Error>
     ensures { Finds (λ is. is) result (is_highest directory.now above.now) (R.answers rt.now) }
 {
-    Ok(number_of(rt, directory)? == number_of(rt, above)?)
+    Ok(file_number_at(rt, directory)? == file_number_at(rt, above)?)
 }
 
-// The number of what a path leads to.
-fn number_of<R: Directories>(rt: &R, path: &str) -> Result<FileNumber, Error>
-    ensures { Finds (λ number. number) result (number_of path.now) (R.answers rt.now) }
+// The number of the directory or file that a path leads to.
+fn file_number_at<R: Directories>(rt: &R, path: &str) -> Result<FileNumber, Error>
+    ensures { Finds (λ number. number) result (file_number_at path.now) (R.answers rt.now) }
 {
     match rt.look(path) {
         Ok(found) => Ok(found.state.number()),
@@ -305,17 +306,13 @@ fn number_of<R: Directories>(rt: &R, path: &str) -> Result<FileNumber, Error>
     }
 }
 
-// A repository that was found, and its top.
-fn with_top(
-    rt: &impl AllocGlobal,
-    directory: String,
-    top: &str,
-) -> Result<Option<Repository>, Error>
-    ensures { IsFound (option_map repository_of) result
-        (Some (Some (record { directory = string_bytes directory; top = top.now }))) }
+// A repository that was found, with its top.
+fn with_top(rt: &impl AllocGlobal, directory: String, top: &str) -> Result<Repository, AllocError>
+    ensures { IfOk result (λ found. repository_of found
+        ≡ record { directory = string_bytes directory; top = top.now }) }
 {
     let top = String::from_str(rt.alloc(), top)?;
-    Ok(Some(Repository { directory, top }))
+    Ok(Repository { directory, top })
 }
 
 // The directory that a gitfile names.
@@ -396,7 +393,11 @@ fn has_head_file<R: Directories>(rt: &R, path: &str) -> Result<bool, Error>
 fn is_head(text: &[u8]) -> bool
     ensures { result ≡ is_head text.now }
 {
-    begins_head(first_255(text))
+    let front = first_255(text);
+    match front.strip_prefix(b"ref:") {
+        Some(rest) => rest[whitespace_len(rest)..].starts_with(b"refs/"),
+        None => 40 <= digits_len(front),
+    }
 }
 
 // The first 255 bytes of a text.
@@ -404,17 +405,6 @@ fn first_255(text: &[u8]) -> &[u8]
     ensures { result.now ≡ take 255 text.now }
 {
     &text[..text.len().min(255)]
-}
-
-// Whether a text names a reference or begins with an id.
-#[tactic(auto, unfolding(crate::specs::Heads::begins_head))]
-fn begins_head(text: &[u8]) -> bool
-    ensures { result ≡ begins_head text.now }
-{
-    match text.strip_prefix(b"ref:") {
-        Some(rest) => rest[blanks_len(rest)..].starts_with(b"refs/"),
-        None => 40 <= digits_len(text),
-    }
 }
 
 // The number of hex digits at the front of a text.
@@ -426,9 +416,9 @@ fn digits_len(text: &[u8]) -> usize
         .count()
 }
 
-// How many spaces, tabs and line ends it begins with.
-fn blanks_len(text: &[u8]) -> usize
-    ensures len { result ≡ prefix_len is_blank text.now }
+// The number of spaces, tabs and line ends at the front of a text.
+fn whitespace_len(text: &[u8]) -> usize
+    ensures len { result ≡ prefix_len is_whitespace text.now }
     ensures bound { result ≤ length text.now }
 {
     text.iter()
