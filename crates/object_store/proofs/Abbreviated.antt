@@ -15,13 +15,13 @@ use Rattle.object_store.proofs.Named.{begins_itself, name_in_read}
 use Rattle.object_store.proofs.Prefixes.{begins_whole}
 use Rattle.pack_index.proofs.Parts.{begins_less}
 
--- the only id that begins with a prefix
+-- if the run of a prefix is one long, then the only id that begins with the prefix is the one there
 pub only_one : (prefix : KindDigits) (ids : List (List ℕ)) (at : ℕ) → IsRun prefix ids (record { start = at; end = at + 1 }) → matches prefix.digits ids ≡ get_or ids at [] ∷ []
 only_one prefix ids at is =
     let one : at + 1 - at ≡ 1 = omega arith in
     sym is.found ∙ ap (λ n. take n (drop at ids)) one ∙ ap (take 1) (drop-cons ids at [] (omega (arith, is.in_range)))
 
--- as many begin with a prefix as its run is long
+-- as many ids begin with a prefix as its run is long
 pub run_length : (prefix : KindDigits) (ids : List (List ℕ)) (run : Run) → IsRun prefix ids run → length (matches prefix.digits ids) ≡ run.end - run.start
 run_length prefix ids run is =
     let found : take (run.end - run.start) (drop run.start ids) ≡ matches prefix.digits ids = is.found in
@@ -48,7 +48,7 @@ module _ (fewest : ℕ) (digits front : List ℕ) (is : front ≡ take fewest di
   pub front_byte : 4 ≤ fewest → 2 ≤ length digits → first_byte_of front ≡ first_byte_of digits
   front_byte enough two = sym (first_byte_of-begins digits front (omega (arith, size, enough, two)) begins_so)
 
--- so it is decided by what begins with the first digits
+-- so the abbreviation is decided by the ids that begin with the first digits
 pub abbreviated : (fewest : ℕ) (view : StoreView) (digits front : List ℕ) (ids : List ObjectId) (abbreviation : Abbreviation) → front ≡ take fewest digits → 4 ≤ fewest
     → 2 ≤ length digits → AreMatches view front ids → IsAbbreviatedAs fewest view.kind (map id_digits ids) (matches digits (map id_digits ids)) abbreviation
     → IsAbbreviated fewest view digits abbreviation
@@ -75,7 +75,7 @@ abbreviated fewest view digits front ids abbreviation is enough two are at = rec
       found.2,
     )
 
--- the name of an id, as the only one that begins with all of its digits
+-- an id has its name as the only one that begins with all of its digits
 module _ (fewest : ℕ) (view : StoreView) (id : List ℕ) (long : length id ≡ hex_len_of view.kind) where
   abbrev IsLong : List ℕ → Type 0
   IsLong other = length other ≡ hex_len_of view.kind

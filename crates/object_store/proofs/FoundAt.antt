@@ -15,14 +15,14 @@ FindsFor Finds prefix one = Finds prefix.digits one
 abbrev pub IsFoundAt : {F : Type 0} → (List ℕ → F → Type 0) → List KindDigits → List F → ℕ → Type 0
 IsFoundAt {F} Finds prefixes found k = (prefix : KindDigits) (one : F) → Finds (get_or prefixes k prefix).digits (get_or found k one)
 
--- what the first places have was found, and nothing yet at the others
+-- results were found at the positions of the first places, and nothing yet at those of the others
 pub record AreFoundAt {F : Type 0} (Finds : List ℕ → F → Type 0) (size : F → ℕ) (prefixes : List KindDigits) (places : List (ℕ × ℕ)) (n : ℕ) (found : List F) : Type 0 where
   pub long : length found ≡ length prefixes
   pub first : (j : ℕ) (p : ℕ × ℕ) → j < n → IsFoundAt Finds prefixes found (get_or places j p).1
   pub left : (j : ℕ) (p : ℕ × ℕ) → n ≤ j → j < length places → IsFoundAt (λ _ one. size one ≡ 0) prefixes found (get_or places j p).1
 
 module _ {F : Type 0} (Finds : List ℕ → F → Type 0) (size : F → ℕ) (prefixes : List KindDigits) (places : List (ℕ × ℕ)) (are : ArePlaces (length prefixes) places) where
-  -- nothing was found
+  -- at first nothing was found
   pub none_found : (found : List F) → length found ≡ length prefixes → sum_by size found ≡ 0 → AreFoundAt Finds size prefixes places 0 found
   none_found found long empty = record {
     long = long;
@@ -31,14 +31,14 @@ module _ {F : Type 0} (Finds : List ℕ → F → Type 0) (size : F → ℕ) (pr
         let within = are.in_range j p low in omega (arith, empty, get_or-le-sum_by size found (get_or places j p).1 one (omega (arith, within, long)));
   }
 
-  -- what was is found, and the others are nothing
+  -- what was found so far has the relation, and the others count as nothing
   pub some_found : (n : ℕ) (found : List F) → AreFoundAt Finds size prefixes places n found → AllZip (FindsFor (λ digits one. Finds digits one ⊎ (size one ≡ 0))) prefixes found
   some_found n found was =
       let R : List ℕ → F → Type 0 = λ digits one. Finds digits one ⊎ (size one ≡ 0) in
       zipped_from (FindsFor R) prefixes found was.long (λ k prefix one low. at_each_place (length prefixes) places are (IsFoundAt R prefixes found)
       (λ j p within prefix one. elim (cases_lt j n) [ inl less ↦ inl (was.first j p less prefix one) | inr from ↦ inr (was.left j p from within prefix one) ]) k low prefix one)
 
-  -- one more was
+  -- one more was found
   module _ (n : ℕ) (found : List F) (was : AreFoundAt Finds size prefixes places n found) (p : ℕ × ℕ) (prefix : KindDigits) (one : F) (inside : n < length places)
       (p_is : p ≡ get_or places n p) (is : prefix ≡ get_or prefixes p.1 prefix) (finds : Finds prefix.digits one) where
     low : p.1 < length prefixes
@@ -77,7 +77,7 @@ module _ {F : Type 0} (Finds : List ℕ → F → Type 0) (size : F → ℕ) (pr
       left = λ j q from within. other (λ _ x. size x ≡ 0) (get_or places j q).1 (differ j q within (λ e. omega (arith, e, from))) (was.left j q (omega arith) within);
     }
 
-    -- there was nothing yet
+    -- there was nothing yet at its position
     pub size_more : sum_by size (slice_set found p.1 one) ≡ sum_by size found + size one
     size_more =
         let nothing = subst (λ (q : ℕ × ℕ). IsFoundAt (λ _ x. size x ≡ 0) prefixes found q.1) (sym p_is) (was.left n p (omega arith) inside) prefix one in
@@ -87,13 +87,13 @@ module _ {F : Type 0} (Finds : List ℕ → F → Type 0) (size : F → ℕ) (pr
     pub have_more : (most room : ℕ) → room + sum_by size found ≡ most → room < size one → HaveMore Finds size most prefixes
     have_more most room is less = record { some = slice_set found p.1 one; each = some_found (n + 1) (slice_set found p.1 one) one_more; more = omega (arith, is, less, size_more) }
 
-  -- each was
+  -- at last each was found
   pub all_found : (n : ℕ) (found : List F) → length places ≤ n → AreFoundAt Finds size prefixes places n found → AllZip (FindsFor Finds) prefixes found
   all_found n found all was =
       zipped_from (FindsFor Finds) prefixes found was.long (λ k prefix one low.
       at_each_place (length prefixes) places are (IsFoundAt Finds prefixes found) (λ j p within. was.first j p (omega (arith, all, within))) k low prefix one)
 
--- why one of them is not found
+-- why the look-up of one of the prefixes fails is why that of all of them fails
 pub of_one : (Fails : List ℕ → Error → Type 0) (prefixes : List KindDigits) (prefix : KindDigits) (error : Error) → Contains prefixes prefix → Fails prefix.digits error
     → IsOfOne Fails prefixes error
 of_one Fails prefixes prefix (Memory error) has fails = tt

@@ -15,13 +15,13 @@ pub filter-flat_map : {A X : Type 0} (p : X → Bool) (f : A → List X) (xs : L
 filter-flat_map p f [] = refl
 filter-flat_map {A} {X} p f (x ∷ xs) = filter-append p (f x) (flat_map f xs) ∙ ap (λ (rest : List X). filter p (f x) ++ rest) (filter-flat_map p f xs)
 
--- one list more
+-- one list more is added to the lists of the first items
 pub flat_map-take : {A X : Type 0} (f : A → List X) (xs : List A) (i : ℕ) (d : A) → i < length xs → flat_map f (take (i + 1) xs) ≡ flat_map f (take i xs) ++ f (get_or xs i d)
 flat_map-take {A} {X} f xs i d low =
     ap (flat_map f) (take_more xs i d low) ∙ flat_map-append f (take i xs) (get_or xs i d ∷ [])
     ∙ ap (λ (last : List X). flat_map f (take i xs) ++ last) (append-nil (f (get_or xs i d)))
 
--- what holds of each at its position, and of one more after them
+-- what holds of each item at its position, and of one more after them, holds of all
 pub each-push : {X : Type 0} (P : ℕ → X → Type 0) (xs : List X) (x : X) → ((k : ℕ) (d : X) → k < length xs → P k (get_or xs k d)) → P (length xs) x
     → (k : ℕ) (d : X) → k < length (xs ++ x ∷ []) → P k (get_or (xs ++ x ∷ []) k d)
 each-push P xs x each last k d low = elim (cases_lt k (length xs)) [
@@ -31,7 +31,7 @@ each-push P xs x each last k d low = elim (cases_lt k (length xs)) [
       subst (λ m. P m (get_or (xs ++ x ∷ []) m d)) here (subst (P (length xs)) (sym (get_or-append_seam xs x [] d)) last)
 ]
 
--- the bytes of the pack index at a position
+-- the bytes of the pack index at a position are those at this position in the list of all bytes
 module _ (packs : List LazyIndex) (indexes : List (List ℕ)) (same : map (λ (pack : LazyIndex). pack.content) packs ≡ map Some indexes) where
   pub as_many : length packs ≡ length indexes
   as_many = sym (length-map packs (λ (pack : LazyIndex). pack.content)) ∙ ap length same ∙ length-map indexes Some
@@ -41,13 +41,13 @@ module _ (packs : List LazyIndex) (indexes : List (List ℕ)) (same : map (λ (p
       sym (get_or-map (λ (pack : LazyIndex). pack.content) packs i d (Some []) low) ∙ ap (λ xs. get_or xs i (Some [])) same
       ∙ get_or-map Some indexes i [] (Some []) (omega (arith, low, as_many))
 
--- the pack index that a store has at a position
+-- a store has this pack index at a position
 pub record IsPackAt (kind : Kind) (packs : List LazyIndex) (at : ℕ) (pack : LazyIndex) : Type 0 where
   pub low : at < length packs
   pub is : pack ≡ get_or packs at pack
   pub of_kind : pack.kind ≡ kind
 
--- as a loop over the pack indexes has it
+-- a loop over the pack indexes finds the one that the store has at the position
 pub pack_at : {kind : Kind} {packs given : List LazyIndex} {at : ℕ} {pack : LazyIndex} → given ≡ packs → All (λ (p : LazyIndex). p.kind ≡ kind) packs
     → at < length given → pack ≡ get_or given at pack → IsPackAt kind packs at pack
 pack_at {kind} {packs} {given} {at} {pack} value kinds less here =
@@ -59,7 +59,7 @@ pub pack_here : {kind : Kind} {packs : List LazyIndex} {at : ℕ} (d : LazyIndex
     → IsPackAt kind packs at (get_or packs at d)
 pack_here {kind} {packs} {at} d kinds low = record { low = low; is = get_or_default packs at d (get_or packs at d) low; of_kind = kinds at d low }
 
--- the pack index at a position has what is asked for, as those before it, or is the first that has not
+-- the pack index at a position has what is asked for, as those before it have, or is the first that does not have it
 module _ (Has : Kind → List ℕ → Type 0) (HasFault : Kind → Bool → List ℕ → LazyError → Type 0) (view : StoreView) {at : ℕ} {pack : LazyIndex}
     (here : IsPackAt view.kind view.packs at pack) (before : All (IfKnown (Has view.kind)) (take at view.packs)) where
   pub fault_at : (fault : LazyError) (e : Error) → IfKnown (λ bytes. HasFault pack.kind pack.can_fail bytes fault) pack → IsOfIndex (get_or view.paths at []) fault e
@@ -75,7 +75,7 @@ module _ (Has : Kind → List ℕ → Type 0) (HasFault : Kind → Bool → List
     λ bytes known. subst (λ (k : Kind). HasFault k pack.can_fail bytes fault) here.of_kind (why bytes known),
   )
 
--- a store whose pack indexes are ones has no fault
+-- a look-up in a store whose pack indexes are sound fails only because a read fails, or because memory runs out
 no_first_fault : (Has : List ℕ → Type 0) (HasFault : Bool → List ℕ → LazyError → Type 0) (view : StoreView) (whole : List (List ℕ))
     (e : Error) → ((can_fail : Bool) (bytes : List ℕ) (why : LazyError) → IsPackIndex view.kind bytes → HasFault can_fail bytes why → lazy.IsReadOrMemory can_fail why)
     → Holds view whole → IsFirstFault Has HasFault view e → IsIndexReadOrMemory view e

@@ -12,7 +12,7 @@ use Rattle.pack_index.specs.Lazy.{HasBucket, IfKnown, IsFirstCounted, IsOffsetFa
 use Rattle.pack_index.specs.declared.lazy_error.LazyError.{LazyError}
 use Rattle.pack_index.specs.declared.lazy_error.LazyError.TheVariants.{NoOffset, Read}
 
--- the first name that is the id
+-- the first name that is the id is at this position
 name_at : (names : List (List ℕ)) (id : List ℕ) (at : ℕ) → at ≤ length names → ((k : ℕ) → k < at → get_or names k [] ≢ id)
     → (at < length names → get_or names at [] ≡ id) → position_or_len (λ name. bytes_eq name id) names ≡ at
 name_at names id at inside before here =
@@ -49,7 +49,7 @@ module _ (kind : Kind) (bytes id : List ℕ) (bucket : HasBucket kind bytes (fir
     )
     offset_fault can_fail _ fault = absurd fault
 
--- the offset that the index of a pack has, if its bytes are known
+-- this is the offset that the index of a pack has, or none, if its bytes are known
 abbrev pub IsOffsetAt : Kind → List ℕ → LazyIndex → Option ℕ → Type 0
 IsOffsetAt kind id pack offset = IfKnown (λ bytes. IsOffsetOf kind bytes id offset) pack
 
@@ -57,13 +57,13 @@ IsOffsetAt kind id pack offset = IfKnown (λ bytes. IsOffsetOf kind bytes id off
 abbrev pub ArePacked : StoreView → List ℕ → ℕ → List Location → Type 0
 ArePacked view id n locations = (offsets : List (Option ℕ)) × AllZip (IsOffsetAt view.kind id) (take n view.packs) offsets × (locations ≡ in_packs 0 offsets)
 
--- one offset more
+-- one offset more adds its location, or none
 in_packs_more : (n at : ℕ) (offsets : List (Option ℕ)) (offset : Option ℕ) → at ≡ n + length offsets → in_packs n (offsets ++ offset ∷ []) ≡ in_packs n offsets ++ in_packs at (offset ∷ [])
 in_packs_more n at [] offset is = let same : n ≡ at = omega (arith, is) in ap (λ m. in_packs m (offset ∷ [])) same
 in_packs_more n at (None ∷ offsets) offset is = in_packs_more (suc n) at offsets offset (omega (arith, is))
 in_packs_more n at (Some first ∷ offsets) offset is = ap (λ (rest : List Location). Packed n first ∷ rest) (in_packs_more (suc n) at offsets offset (omega (arith, is)))
 
--- one pack more
+-- one pack more adds its location, or none
 pub packed_more : (view : StoreView) (id : List ℕ) (at : ℕ) (pack : LazyIndex) (offset : Option ℕ) (old new : List Location) → IsPackAt view.kind view.packs at pack
     → IsOffsetAt pack.kind id pack offset → ArePacked view id at old → new ≡ old ++ in_packs at (offset ∷ []) → ArePacked view id (at + 1) new
 packed_more view id at pack offset old new here found before all =

@@ -8,7 +8,7 @@ use Rattle.object_store.proofs.Whole.{found_begins}
 use Rattle.object_store.specs.declared.error.Error.{Error}
 use Rattle.object_store.specs.declared.parts.LocatedId.{LocatedId}
 
--- the first of the ids that begin with the digits
+-- these are the first of the ids that begin with the digits
 module _ (view : StoreView) (digits : List ℕ) (limit : Option ℕ) (ids first : List ObjectId) (are : AreMatches view digits ids) (is : first ≡ limited_to limit ids) where
   all_first : (P : ObjectId → Type 0) → All P ids → All P first
   all_first P all = subst (All P) (sym is) (by limit)
@@ -26,7 +26,7 @@ module _ (view : StoreView) (digits : List ℕ) (limit : Option ℕ) (ids first 
       first_byte_of-begins (id_digits (get_or first at d)) digits enough
       (all_first (λ id. starts_with nat_eq (id_digits id) digits ≡ true) (found_begins view digits ids are) at d low)
 
-  -- why one of them is not located is why they are not
+  -- why one of them is not located is why all of them are not
   pub fault_of_first : (at : ℕ) (d : ObjectId) (error : Error) → 2 ≤ length digits → at < length first
       → IsStoreFault view (first_byte_of (id_digits (get_or first at d))) error
       ⊎ (HaveBuckets view (first_byte_of (id_digits (get_or first at d))) × IsLocateFault view (id_digits (get_or first at d)) error)
@@ -35,7 +35,7 @@ module _ (view : StoreView) (digits : List ℕ) (limit : Option ℕ) (ids first 
   fault_of_first at d error enough low (inr both) =
       inr (ids, are, get_or first at d, subst (λ (some : List ObjectId). Contains some (get_or first at d)) is (Contains-get_or first at d low), both.1)
 
--- one more is located
+-- one more id is located
 pub located_more : {A : Type 0} (view : StoreView) (paths : List ℕ → List (List ℕ)) (at : ℕ) (ids : List ObjectId) (d : ObjectId) (located more : List (LocatedId A))
     (one : LocatedId A) → more ≡ located ++ one ∷ [] → at < length ids → one.id ≡ get_or ids at d → IsLocated view paths one
     → map (λ (l : LocatedId A). l.id) located ≡ take at ids → All (IsLocated view paths) located

@@ -9,7 +9,7 @@ use Rattle.object_store.proofs.Located.{offset_some}
 use Rattle.object_store.proofs.LooseParts.{any_decides}
 use Rattle.pack_index.specs.Format.{IsFirstIndexOf, names_in, offset_in}
 
--- the offset that is found is that of the first index of the name
+-- the offset that is found is that of the first position of the name
 has_offset : (kind : Kind) (bytes id : List ℕ) (offset : ℕ) → offset_of kind bytes id ≡ Some offset
     → (at : ℕ) × IsFirstIndexOf (names_in kind bytes) id at × (offset ≡ offset_in kind bytes at)
 has_offset kind bytes id offset found =

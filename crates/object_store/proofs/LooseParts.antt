@@ -26,7 +26,7 @@ module _ (kind : Kind) (ids : List (List ℕ)) (index : IsIndex kind ids) where
   pub index_least : hex_len_of kind ≤ least_hex_len ids
   index_least = least_of (hex_len_of kind) ids (most_len kind) lengths
 
-  -- so it is one of them if and only if one of them begins with all of its digits
+  -- so an id is one of them if and only if one of them begins with all of its digits
   module _ (digits : List ℕ) (found : List ObjectId) (n : ℕ) (empty : Bool) (are : map id_digits found ≡ matches digits ids) (long : IsLong digits) (many : length found ≡ n)
       (is : empty ≡ nat_eq n 0) where
     abbrev p : List ℕ → Bool
@@ -58,7 +58,7 @@ module _ (kind : Kind) (ids : List (List ℕ)) (index : IsIndex kind ids) where
           ap not (is ∙ ne_eqb n 0 (λ zero. omega (arith, kept.1, as_many, zero))),
     )
 
--- an id is one of them if and only if one of them is equal
+-- an id is in a list if and only if an id in it is equal
 pub any_decides : (ids : List (List ℕ)) (id : List ℕ) → Decides (list_any (λ other. bytes_eq other id) ids) (Contains ids id)
 any_decides ids id = (
   λ yes. let any = Any-from_list_any (λ other. bytes_eq other id) ids yes in subst (Contains ids) ((bytes_decides any.1 id).0 any.4) (any.0, any.2, any.3),

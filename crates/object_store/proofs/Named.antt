@@ -24,7 +24,7 @@ begins_fewer other id front n few begins more =
     (starts_with-BeginsWith other front).1
     (take (n - length front) is.0 ++ there.0, there.1 ∙ ap (λ (xs : List ℕ). xs ++ there.0) split ∙ append_assoc front (take (n - length front) is.0) there.0)
 
--- the shortest prefix of the id at a position of an index is its name there
+-- the shortest prefix of the id at a position of an index is its name in the index
 pub name_there : (kind : Kind) (least : ℕ) (ids : List (List ℕ)) → IsIndex kind ids → (at : ℕ) (id name : List ℕ) → at < length ids → get_or ids at [] ≡ id
     → IsShortestNameFrom least ids at name → IsNameIn least ids id name
 name_there kind least ids index at id name low is short = record {
@@ -62,7 +62,7 @@ name_in_read kind least read ids front index few id name is = record {
     had : (other : List ℕ) → Contains ids other → Contains read other
     had other has = contains_had (λ x. starts_with nat_eq x front) read other ((index.members other).0 has)
 
--- of each id with a first byte
+-- so each id that was named has its name among all ids that were read
 pub names_read : (kind : Kind) (least : ℕ) (read : List (List ℕ)) (front : List ℕ) (ids : List ObjectId) (named : List NamedId) → length front ≤ least
     → IsIndexOf kind (matches front read) (map id_digits ids) → map (λ (n : NamedId). n.id) named ≡ ids
     → ((k : ℕ) (d : NamedId) → k < length named → IsShortestNameFrom least (map id_digits ids) k (get_or named k d).name.digits)
@@ -76,7 +76,7 @@ names_read kind least read front ids named few index all short k d low =
     name_in_read kind least read (map id_digits ids) front index few (id_digits n.id) n.name.digits
     (name_there kind least (map id_digits ids) index.index k (id_digits n.id) n.name.digits within is (short k d low))
 
--- the digits of the ids that are named
+-- the ids that are named have the digits of the ids
 pub named_digits : (ids : List ObjectId) (named : List NamedId) → map (λ (n : NamedId). n.id) named ≡ ids → map (λ (n : NamedId). id_digits n.id) named ≡ map id_digits ids
 named_digits ids named all = map_twice named ∙ ap (map id_digits) all
   where
@@ -88,7 +88,7 @@ named_digits ids named all = map_twice named ∙ ap (map id_digits) all
 abbrev pub HaveNames : ℕ → List ObjectId → List NamedId → Type 0
 HaveNames least ids named = (k : ℕ) (d : NamedId) → k < length named → IsShortestNameFrom least (map id_digits ids) k (get_or named k d).name.digits
 
--- one id more
+-- one id more has its name
 pub named_more : (least at : ℕ) (ids : List ObjectId) (named more : List NamedId) (n : NamedId) → more ≡ named ++ n ∷ [] → at < length ids → slice_get ids at ≡ Some n.id
     → IsShortestNameFrom least (map id_digits ids) at n.name.digits → map (λ (n : NamedId). n.id) named ≡ take at ids → HaveNames least ids named
     → (map (λ (n : NamedId). n.id) more ≡ take (at + 1) ids) × HaveNames least ids more

@@ -1,4 +1,4 @@
--- What parts of pack indexes have of a store.
+-- What parts of pack indexes have of the ids of a store.
 use Rattle.gix_hash.proofs.Std.{◌≡◌, ℕ, Option, Some, refl, All-tail, same_Some, ◌+◌, ◌<◌, ◌≤◌, Bool, true, None, List, [], ◌∷◌, ◌++◌, length, get_or, filter, take, sym, ap, ◌∙◌, subst, arith, append_assoc, All, AllZip, flat_map, length-append, nat_eq, starts_with, filter-append}
 use Rattle.std.proofs.lemmas.Slice.Zip.{AllZip-long}
 use Rattle.id_lookup.specs.Words.{Kind, first_byte_of, matches}
@@ -11,11 +11,11 @@ use Rattle.pack_index.proofs.Parts.{begins_less, part_for_more, part_matches}
 use Rattle.object_store.proofs.Held.{filter-flat_map, flat_map-take}
 use Rattle.object_store.proofs.Zipped.{zipped_at, zipped_weaker}
 
--- a part of a pack index, as a relation of the two
+-- this is a part of the pack index, as a relation of the two
 abbrev pub IsPart : List ℕ → LazyIndex → BucketNames → Type 0
 IsPart digits pack part = IsPartOf pack digits part
 
--- the names that a pack index counts with the first byte, and has, if its bytes are known
+-- these are the names that a pack index counts with the first byte, all of which have it, if its bytes are known
 abbrev pub AreCounted : Kind → ℕ → LazyIndex → List (List ℕ) → Type 0
 AreCounted kind byte pack names = IfKnown (λ bytes. HasBucket kind bytes byte × (names ≡ counted_with kind bytes byte)) pack
 
@@ -75,7 +75,7 @@ gathered p parts names loose matched =
     ap (λ (front : List (List ℕ)). front ++ filter p loose) matched
     ∙ sym (filter-append p (flat_map (λ (some : List (List ℕ)). some) names) loose ∙ ap (λ (front : List (List ℕ)). front ++ filter p loose) (filter-flat p names))
 
--- and all of them what they count
+-- so parts of all pack indexes have the names that these count, as far as they begin with the digits
 pub are_parts : (view : StoreView) (digits : List ℕ) (parts : List BucketNames) → 2 ≤ length digits → first_byte_of digits < 256 → All (λ (p : LazyIndex). p.kind ≡ view.kind) view.packs
     → AllZip (IsPart digits) view.packs parts → AreParts view digits parts
 are_parts view digits parts enough small kinds each =

@@ -2,7 +2,7 @@
 use Rattle.gix_hash.proofs.Std.{◌≡◌, ◌≢◌, ◌∙◌, ℕ, ◌+◌, ◌<◌, List, [], ◌∷◌, ◌++◌, length, get_or, map, sym, ap, subst, arith, All, IsDistinct, range_with_len, IsPermutation, eqb, eqb-false, ne_eqb, get_or-map, length-map, map-append, map-id, All-map, get_or-range_with_len, length-range_with_len, map-range_with_len_more, All-permutation, IsPermutation-sym, IsDistinct-IsPermutation, IsDistinct-from_apart, apart_from_distinct}
 use Rattle.object_store.specs.Stores.{ArePlaces}
 
--- the place of one more position
+-- with the place of one more position, the places have the positions in order up to it
 pub one_more : (n : ℕ) (places more : List (ℕ × ℕ)) (key : ℕ) → more ≡ places ++ (key, n) ∷ [] → map (λ (place : ℕ × ℕ). place.1) places ≡ range_with_len 0 n
     → map (λ (place : ℕ × ℕ). place.1) more ≡ range_with_len 0 (n + 1)
 one_more n places more key is all =
@@ -16,7 +16,7 @@ nth n k d low = get_or-range_with_len 0 n k d low ∙ omega arith
 below : (n : ℕ) → All (λ k. k < n) (range_with_len 0 n)
 below n k d low = let high : k < n = omega (arith, low, length-range_with_len 0 n) in rw (nth n k d high) high
 
--- each of the places is of one of them
+-- each of the places has one of these numbers
 pub in_range : (n : ℕ) (places : List (ℕ × ℕ)) → IsPermutation (range_with_len 0 n) (map (λ (place : ℕ × ℕ). place.1) places) → All (λ (place : ℕ × ℕ). place.1 < n) places
 in_range n places order j p low =
     subst (λ k. k < n) (get_or-map (λ (place : ℕ × ℕ). place.1) places j p 0 low) (All-permutation (λ k. k < n) _ _ order (below n) j 0 (omega (arith, low, length-map places (λ (place : ℕ × ℕ). place.1))))

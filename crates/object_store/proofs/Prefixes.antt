@@ -3,7 +3,7 @@ use Rattle.gix_hash.proofs.Std.{◌≡◌, ℕ, ◌-◌, ◌<◌, ◌≤◌, tru
 use Rattle.id_lookup.specs.Words.{KindDigits, first_byte_of, padded, place}
 use Rattle.id_lookup.proofs.Spelled.{begins_with-place, starts_with-BeginsWith, starts_with-spelling}
 
--- digits with zeros after them begin with a prefix that is not longer, so they do
+-- if digits with zeros after them begin with a prefix that is not longer than the digits, then the digits do
 pub begins_unpadded : (n : ℕ) (digits : List ℕ) (front : KindDigits) → length front.digits ≤ length digits → is_eq (place front.digits (padded n digits)) ≡ true
     → starts_with nat_eq digits front.digits ≡ true
 begins_unpadded n digits front short equal =

@@ -1,4 +1,4 @@
--- What a store whose pack indexes are ones has read with a first byte: all ids that have it.
+-- A store whose pack indexes are sound has read all of its ids with a first byte.
 use Rattle.gix_hash.proofs.Std.{◌≡◌, ℕ, ◌<◌, ◌≤◌, inl, inr, Bool, true, nat_eq, None, List, [], ◌++◌, length, get_or, map, sym, ap, ◌∙◌, subst, arith, All, Contains, flat_map, starts_with, ext_get_or, get_or-map, length-map, Contains-append_cases, Contains-append_left, Contains-append_right, Contains-get_or, filter-append, flat_map-map}
 use Rattle.id_lookup.specs.Words.{IsIndexOf, ObjectId, first_byte_of, has_first_byte, id_digits, matches, part_of}
 use Rattle.id_lookup.proofs.Beginnings.{first_byte_of-begins, matches-part, same_test}
@@ -21,7 +21,7 @@ module _ (view : StoreView) (whole : List (List ℕ)) (byte : ℕ) (read : List 
   abbrev counted : List ℕ → List (List ℕ)
   counted bytes = part_of byte (names_in view.kind bytes)
 
-  -- each pack index counts all of its names that have it
+  -- each pack index counts all of its names that have the first byte
   each_counted : r.names ≡ map counted h.indexes
   each_counted =
       let many = as_many view.packs h.indexes h.known in
@@ -43,7 +43,7 @@ module _ (view : StoreView) (whole : List (List ℕ)) (byte : ℕ) (read : List 
       ∙ ap (λ (front : List (List ℕ)). front ++ view.loose)
       (flat_map-map (λ (some : List (List ℕ)). some) counted h.indexes ∙ sym (filter-flat_map (has_first_byte byte) (names_in view.kind) h.indexes))
 
-  -- so it has read only ids of the store, and all that have it
+  -- so only ids of the store were read, and all that have the first byte
   pub read_had : (id : List ℕ) → Contains read id → Contains whole id
   read_had id has =
       (h.all.members id).1 (elim (Contains-append_cases (part_of byte packed) view.loose id (subst (λ (ids : List (List ℕ)). Contains ids id) read_is has)) [
@@ -58,7 +58,7 @@ module _ (view : StoreView) (whole : List (List ℕ)) (byte : ℕ) (read : List 
         | inr loose ↦ Contains-append_right (part_of byte packed) view.loose id loose
       ])
 
-  -- what begins with digits of it is found
+  -- so what is found for digits with this first byte is what begins with them in the whole store
   pub whole_found : (digits : List ℕ) (found : List (List ℕ)) → 2 ≤ length digits → first_byte_of digits ≡ byte → IsIndexOf view.kind (matches digits read) found
       → found ≡ matches digits whole
   whole_found digits found long same index =

@@ -1,4 +1,4 @@
--- The locations in a store whose pack indexes are ones.
+-- The locations of an object in a store whose pack indexes are sound.
 use Rattle.gix_hash.proofs.Std.{◌≡◌, ℕ, ◌<◌, true, Option, None, Some, List, [], ◌++◌, length, get_or, map, sym, ap, ◌∙◌, arith, ext_get_or, get_or-map, length-map}
 use Rattle.std.proofs.lemmas.Slice.Zip.{AllZip-long}
 use Rattle.id_lookup.specs.Words.{Kind, first_byte_of}
@@ -11,7 +11,7 @@ use Rattle.object_store.proofs.Held.{as_many, known_at}
 use Rattle.object_store.proofs.Located.{IsOffsetAt, offset_none, offset_some}
 use Rattle.object_store.proofs.Zipped.{zipped_at}
 
--- the offset of the first name that is counted is that of the first name
+-- the offset of the first counted name that is the id is that of the first name that is the id
 offset_is : (kind : Kind) (bytes id : List ℕ) → IsPackIndex kind bytes → first_byte_of id < 256 → (offset : Option ℕ) → IsOffsetOf kind bytes id offset → offset ≡ offset_of kind bytes id
 offset_is kind bytes id index small None none =
     offset_none kind bytes id (none_of_all kind bytes id index.names.tables index.names.counts small none.0 none.1)

@@ -9,55 +9,55 @@ use Rattle.object_store.specs.declared.parts.NamedId.{NamedId}
 use Rattle.object_store.specs.declared.parts.Abbreviation.{Abbreviation}
 use Rattle.object_store.specs.declared.parts.Abbreviation.TheVariants.{Missing, Ambiguous, Named}
 
--- all locations of the object of an id, and the paths of the files that it has as a loose object
+-- the id that is located has all locations of its object, and the paths of the files that the object has as a loose object
 pub record IsLocated {A : Type 0} (view : StoreView) (loose_paths : List ℕ → List (List ℕ)) (located : LocatedId A) : Type 0 where
   pub locations : AreLocations view (id_digits located.id) located.locations.items
   pub paths : map string_bytes located.loose_paths.items ≡ loose_paths (id_digits located.id)
 
--- the first of a list, as many as the limit, or all if there is none
+-- the first items of a list, at most as many as the limit, or all if there is no limit
 abbrev pub limited_to : {X : Type 0} → Option ℕ → List X → List X
 limited_to None xs = xs
 limited_to (Some limit) xs = take limit xs
 
--- of the ids of the store that begin with the digits the first up to the limit, each with its locations
+-- these are the ids of the store that begin with the digits, the first ones up to the limit, each with its locations
 pub record AreLocated {A : Type 0} (limit : Option ℕ) (view : StoreView) (loose_paths : List ℕ → List (List ℕ)) (digits : List ℕ) (located : List (LocatedId A)) : Type 0 where
   pub ids : List ObjectId
   pub are_matches : AreMatches view digits ids
   pub first : map (λ (l : LocatedId A). l.id) located ≡ limited_to limit ids
   pub each : All (IsLocated view loose_paths) located
 
--- why they are not found: a look-up of the ids fails, or that of the locations of one of the first
+-- why the ids that begin with the digits are not located: the look-up of the ids fails, or that of the locations of one of them up to the limit
 abbrev pub IsLocationsFault : Option ℕ → StoreView → List ℕ → Error → Type 0
 IsLocationsFault limit view digits error =
     IsStoreFault view (first_byte_of digits) error
     ⊎ ((ids : List ObjectId) × AreMatches view digits ids × (id : ObjectId) × Contains (limited_to limit ids) id × IsLocateFault view (id_digits id) error)
 
--- a list for each prefix: of the ids that begin with it the first up to the limit, each with its locations
+-- there is a list for each prefix: the ids that begin with it, the first ones up to the limit, each with its locations
 abbrev pub AreLocatedOfEach : {A : Type 0} → Option ℕ → StoreView → (List ℕ → List (List ℕ)) → List KindDigits → List (Vec (LocatedId A) A) → Type 0
 AreLocatedOfEach {A} limit view loose_paths prefixes located =
     AllZip (λ (prefix : KindDigits) (ids : Vec (LocatedId A) A). AreLocated limit view loose_paths prefix.digits ids.items) prefixes located
 
--- how many locations ids have
+-- how many locations the ids have together
 abbrev pub location_count : {A : Type 0} → Vec (LocatedId A) A → ℕ
 location_count ids = sum_by (λ located. length located.locations.items) ids.items
 
--- the ids that are located of some of the prefixes have more than `most` locations
+-- the ids that are located for some of the prefixes have more than `most` locations together
 abbrev pub HaveMoreLocations : Type 0 → Option ℕ → StoreView → (List ℕ → List (List ℕ)) → ℕ → List KindDigits → Type 0
 HaveMoreLocations A limit view loose_paths most prefixes =
     HaveMore {Found = Vec (LocatedId A) A} (λ digits ids. AreLocated limit view loose_paths digits ids.items) location_count most prefixes
 
--- why they are not found: why they are not of one of the prefixes, or memory ran out
+-- why the ids of several prefixes are not located: those of one of the prefixes are not, or memory ran out
 abbrev pub IsLocationsFaultOfOne : Option ℕ → StoreView → List KindDigits → Error → Type 0
 IsLocationsFaultOfOne limit view prefixes error = IsOfOne (IsLocationsFault limit view) prefixes error
 
--- the only one that was found, with its name among the ids, both of the kind; or none was found, or more than one
+-- the abbreviation says whether none was found, or more than one, or has the only one that was found, with its name among the ids, both of the kind
 abbrev pub IsAbbreviatedAs : ℕ → Kind → List (List ℕ) → List (List ℕ) → Abbreviation → Type 0
 IsAbbreviatedAs fewest kind ids found Missing = found ≡ []
 IsAbbreviatedAs fewest kind ids found Ambiguous = 1 < length found
 IsAbbreviatedAs fewest kind ids found (Named named) =
     (found ≡ id_digits named.id ∷ []) × IsNameIn fewest ids (id_digits named.id) named.name.digits × IsOfKind kind named
 
--- so of those that were read, `found` being the ones that begin with the digits, each once
+-- the abbreviation says so of the ids that were read, where `found` has those that begin with the digits, each once
 pub record IsAbbreviated (fewest : ℕ) (view : StoreView) (digits : List ℕ) (abbreviation : Abbreviation) : Type 0 where
   pub read : List (List ℕ)
   pub ids_read : AreIdsRead view (first_byte_of digits) read
@@ -65,7 +65,7 @@ pub record IsAbbreviated (fewest : ℕ) (view : StoreView) (digits : List ℕ) (
   pub index : IsIndexOf view.kind (matches digits read) found
   pub name : IsAbbreviatedAs fewest view.kind read found abbreviation
 
--- those with a first byte, which are those that begin with its two digits, each once, in order, with its name
+-- these are the ids with a first byte, which are those that begin with its two digits, each once, in order, with its name
 pub record AreNamed (fewest : ℕ) (view : StoreView) (byte : ℕ) (named : List NamedId) : Type 0 where
   pub read : List (List ℕ)
   pub ids_read : AreIdsRead view byte read
@@ -73,12 +73,12 @@ pub record AreNamed (fewest : ℕ) (view : StoreView) (byte : ℕ) (named : List
   pub names : All (λ (n : NamedId). IsNameIn fewest read (id_digits n.id) n.name.digits) named
   pub kinds : All (IsOfKind view.kind) named
 
--- how many prefixes of an abbreviation have ids: one, or none if no id begins with it
+-- what the look-up of an abbreviation counts as: 1, or 0 if no id begins with the prefix
 abbrev pub id_count : Abbreviation → ℕ
 id_count Missing = 0
 id_count Ambiguous = 1
 id_count (Named named) = 1
 
--- an abbreviation for each prefix
+-- there is an abbreviation for each prefix
 abbrev pub AreAbbreviatedOfEach : ℕ → StoreView → List KindDigits → List Abbreviation → Type 0
 AreAbbreviatedOfEach least view prefixes abbreviations = AllZip (λ (prefix : KindDigits). IsAbbreviated least view prefix.digits) prefixes abbreviations

@@ -19,8 +19,8 @@ use Rattle.object_store.specs.declared.parts.Location.{Location}
 use Rattle.object_store.specs.declared.parts.Location.TheVariants.{Loose, Packed}
 use Rattle.object_store.specs.declared.parts.NamedId.{NamedId}
 
--- the kind of all ids, the pack indexes, their paths, the ids of the loose objects that were listed, each by its digits, and the only first byte of which they
--- were listed, if they were not of all
+-- what contracts see of a store: the kind of all ids, the pack indexes, their paths, the ids of the loose objects that were listed, each by its digits, and the
+-- only first byte for which they were listed, if they were not listed for all
 pub record StoreView : Type 0 where
   pub kind : Kind
   pub packs : List LazyIndex
@@ -32,11 +32,12 @@ pub record StoreView : Type 0 where
 abbrev pub IsListed : StoreView → ℕ → Type 0
 IsListed view byte = (only : ℕ) → view.listed ≡ Some only → byte ≡ only
 
--- what a store has, as it was opened first or later
+-- the view is what a store had as it was opened first or later
 abbrev pub IsSeen : (StoreView → Type 0) → StoreView → StoreView → Type 0
 IsSeen MayHave first view = (view ≡ first) ⊎ MayHave view
 
--- a store was opened again, or not: the kind stays, and of which first byte the loose objects are listed; and the store may have nothing more then
+-- a store was opened again, or not: its kind stays the same, and so does the first byte for which loose objects are listed; and what it may have then, it might
+-- have had before
 pub record IsReopened (MayHave MayHaveThen : StoreView → Type 0) (old new : StoreView) : Type 0 where
   pub kind : new.kind ≡ old.kind
   pub listed : new.listed ≡ old.listed
@@ -45,14 +46,14 @@ pub record IsReopened (MayHave MayHaveThen : StoreView → Type 0) (old new : St
 
 -- What an object store holds. Each id is given by its digits.
 
--- the bytes of the pack indexes are known, and each is one; and `whole` is the index of all their names and the loose ids
+-- the bytes of all pack indexes are known and are those of sound ones, and `whole` is the index of all their names and the loose ids
 pub record Holds (view : StoreView) (whole : List (List ℕ)) : Type 0 where
   pub indexes : List (List ℕ)
   pub known : map (λ (pack : LazyIndex). pack.content) view.packs ≡ map Some indexes
   pub are_indexes : All (IsPackIndex view.kind) indexes
   pub all : IsIndexOf view.kind (flat_map (names_in view.kind) indexes ++ view.loose) whole
 
--- the id is one of these, and the name is its shortest prefix, of at least `fewest` digits, with which no other one begins
+-- the id is one of the ids, and the name is its shortest prefix of at least `fewest` digits with which no other one begins
 pub record IsNameIn (fewest : ℕ) (ids : List (List ℕ)) (id name : List ℕ) : Type 0 where
   pub has : Contains ids id
   pub first : name ≡ take (length name) id
@@ -64,23 +65,23 @@ pub record IsNameIn (fewest : ℕ) (ids : List (List ℕ)) (id name : List ℕ) 
 abbrev pub IsOfKind : Kind → NamedId → Type 0
 IsOfKind kind named = (id_kind named.id ≡ kind) × (named.name.kind ≡ kind)
 
--- the error that a read of the pack index of this path gives that fails with this kind
+-- the error of a look-up if a read of the pack index at this path fails with an error of this kind
 abbrev pub of_read : String Global → IoError → ErrorKind → Error
 of_read path error NotFound = Gone path
 of_read path error _ = Index path (faults.Read error)
 
--- the error that a fault of the pack index of this path gives
+-- the error of a look-up if the pack index at this path has this fault
 abbrev pub of_index : String Global → LazyError → Error
 of_index path (faults.Memory error) = Memory error
 of_index path (faults.Read error) = of_read path error (error_kind error)
 of_index path fault = Index path fault
 
--- the error is that of a pack index whose path has these bytes
+-- the error is that of this fault of a pack index whose path has these bytes
 abbrev pub IsOfIndex : List ℕ → LazyError → Error → Type 0
 IsOfIndex path fault error = (text : String Global) × (string_bytes text ≡ path) × (error ≡ of_index text fault)
 
--- why a look-up fails that asks the pack indexes in order: one of them has the fault, where a read of it may fail or not, and those before it have what is
--- asked for; or memory ran out
+-- why a look-up that asks the pack indexes in order fails: one of them has a fault, which depends on whether its reads may fail, and those before it have what
+-- is asked for; or memory ran out
 abbrev pub IsFirstFault : (List ℕ → Type 0) → (Bool → List ℕ → LazyError → Type 0) → StoreView → Error → Type 0
 IsFirstFault Has HasFault view (Memory error) = Unit {0}
 IsFirstFault Has HasFault view error =
@@ -91,31 +92,31 @@ IsFirstFault Has HasFault view error =
 abbrev pub HaveBuckets : StoreView → ℕ → Type 0
 HaveBuckets view byte = All (IfKnown (λ bytes. HasBucket view.kind bytes byte)) view.packs
 
--- why they are not read
+-- why the names with a first byte are not read
 abbrev pub IsStoreFault : StoreView → ℕ → Error → Type 0
 IsStoreFault view byte error =
     IsFirstFault (λ bytes. HasBucket view.kind bytes byte) (λ can_fail bytes why. IsBucketFault can_fail view.kind bytes byte why) view error
 
--- a pack index has the names that are counted with the first byte of the id, and this is the offset, which is in a table, of the first of them that is the
--- id, or none if none of them is
+-- a pack index has the names that are counted with the first byte of the id, and this is the offset of the first of them that is the id, where a table has the
+-- offset, or there is none, as none of them is the id
 abbrev pub IsOffsetOf : Kind → List ℕ → List ℕ → Option ℕ → Type 0
 IsOffsetOf kind bytes id None = HasBucket kind bytes (first_byte_of id) × ((at : ℕ) → ¬ IsFirstCounted kind bytes id at)
 IsOffsetOf kind bytes id (Some offset) =
     HasBucket kind bytes (first_byte_of id) × (at : ℕ) × IsFirstCounted kind bytes id at × HasOffset kind bytes at × (offset ≡ offset_in kind bytes at)
 
--- why it is not read
+-- why the offset of an id is not read
 abbrev pub IsLocationFault : Bool → Kind → List ℕ → List ℕ → LazyError → Type 0
 IsLocationFault can_fail kind bytes digits (faults.NoOffset at) =
     HasBucket kind bytes (first_byte_of digits) × IsFirstCounted kind bytes digits at × ¬ HasOffset kind bytes at
 IsLocationFault can_fail kind bytes digits error = IsBucketFault can_fail kind bytes (first_byte_of digits) error
 
--- why the locations of an id are not read: the first pack index with a fault, and that fault
+-- why the locations of an id are not read: the first pack index with a fault has this one, or memory ran out
 abbrev pub IsLocateFault : StoreView → List ℕ → Error → Type 0
 IsLocateFault view digits error =
     IsFirstFault (λ bytes. (offset : Option ℕ) × IsOffsetOf view.kind bytes digits offset)
     (λ can_fail bytes why. IsLocationFault can_fail view.kind bytes digits why) view error
 
--- a read failed of a pack index that is read from what may fail, or memory ran out
+-- the read of a pack index whose reads may fail has failed, or memory ran out
 abbrev pub IsIndexReadOrMemory : StoreView → Error → Type 0
 IsIndexReadOrMemory view (Memory error) = Unit {0}
 IsIndexReadOrMemory view error =
@@ -124,11 +125,11 @@ IsIndexReadOrMemory view error =
 
 -- Where an object store has an object. Ids and names are given by their digits.
 
--- the offset in the pack of the object of an id, by the first index of its name, if the pack index has it
+-- the offset of the object of an id in a pack, by the first position of the id in the pack index, or none if the pack index does not have the id
 abbrev pub offset_of : Kind → List ℕ → List ℕ → Option ℕ
 offset_of kind bytes id = option_map (offset_in kind bytes) (position (λ name. bytes_eq name id) (names_in kind bytes))
 
--- the locations at the offsets that packs have of an object, one or none each, where the first of these packs has this number
+-- the locations of an object in packs that follow each other, each of which has one offset or none; the first of the packs has this number
 abbrev pub in_packs : ℕ → List (Option ℕ) → List Location
 in_packs pack [] = []
 in_packs pack (None ∷ offsets) = in_packs (suc pack) offsets
@@ -138,13 +139,14 @@ in_packs pack (Some offset ∷ offsets) = Packed pack offset ∷ in_packs (suc p
 abbrev pub loose_at : List ℕ → List (List ℕ) → List Location
 loose_at id loose_ids = if list_any (λ loose. bytes_eq loose id) loose_ids then Loose ∷ [] else []
 
--- the locations in all packs, and the last one if the object is loose
+-- all locations of the object of an id: those in the packs, and last `Loose` if it is a loose object
 abbrev pub locations_of : Kind → List ℕ → List (List ℕ) → List (List ℕ) → List Location
 locations_of kind id indexes loose_ids = in_packs 0 (map (λ bytes. offset_of kind bytes id) indexes) ++ loose_at id loose_ids
 
 -- The names of a store with one first byte, and what is found among them.
 
--- the ids in which a store looks up what has the first byte: the names that each pack index counts with it, and has, if its bytes are known, and the loose ids
+-- a store looks up what has the first byte among these ids: the names that each pack index, if its bytes are known, counts with the byte, all of which have it,
+-- and the loose ids
 pub record AreIdsRead (view : StoreView) (byte : ℕ) (ids : List (List ℕ)) : Type 0 where
   pub small : byte < 256
   pub names : List (List (List ℕ))
@@ -152,7 +154,7 @@ pub record AreIdsRead (view : StoreView) (byte : ℕ) (ids : List (List ℕ)) : 
       IfKnown (λ bytes. HasBucket view.kind bytes byte × (some ≡ counted_with view.kind bytes byte)) pack) view.packs names
   pub all : ids ≡ flat_map (λ (some : List (List ℕ)). some) names ++ view.loose
 
--- each is a part of the pack index at its position, and with the loose ids they have those of the ids that were read that begin with the digits
+-- each part is one of the pack index at its position, and the parts and the loose ids have all ids that begin with the digits of those that were read
 pub record AreParts (view : StoreView) (digits : List ℕ) (parts : List BucketNames) : Type 0 where
   pub enough : 2 ≤ length digits
   pub each : AllZip (λ (pack : LazyIndex) (part : BucketNames). IsPartOf pack digits part) view.packs parts
@@ -160,14 +162,14 @@ pub record AreParts (view : StoreView) (digits : List ℕ) (parts : List BucketN
   pub ids_read : AreIdsRead view (first_byte_of digits) read
   pub matched : flat_map (λ (part : BucketNames). matches digits part.names) parts ++ matches digits view.loose ≡ matches digits read
 
--- the ids that begin with the digits, of those that were read, each once, in order
+-- these are the ids that begin with the digits, of those that were read, each once, in order
 pub record AreMatches (view : StoreView) (digits : List ℕ) (ids : List ObjectId) : Type 0 where
   pub read : List (List ℕ)
   pub ids_read : AreIdsRead view (first_byte_of digits) read
   pub index : IsIndexOf view.kind (matches digits read) (map id_digits ids)
   pub kinds : All (λ id. id_kind id ≡ view.kind) ids
 
--- the name of an id among those that were read, or none if it is none of them
+-- this is the name of an id among those that were read, or there is no name, as the id is not one of them
 pub record IsAbbreviationOf (fewest : ℕ) (view : StoreView) (id : List ℕ) (name : Option KindDigits) : Type 0 where
   pub read : List (List ℕ)
   pub ids_read : AreIdsRead view (first_byte_of id) read
@@ -179,11 +181,11 @@ pub record CanLookUp (view : StoreView) (prefix : KindDigits) : Type 0 where
   pub kind : prefix.kind ≡ view.kind
   pub listed : IsListed view (first_byte_of prefix.digits)
 
--- a list for each prefix: the ids that begin with it
+-- there is a list for each prefix: the ids that begin with it
 abbrev pub AreMatchesOfEach : {A : Type 0} → StoreView → List KindDigits → List (Vec ObjectId A) → Type 0
 AreMatchesOfEach {A} view prefixes found = AllZip (λ (prefix : KindDigits) (ids : Vec ObjectId A). AreMatches view prefix.digits ids.items) prefixes found
 
--- what was found for some of the prefixes is more than `most`; what counts for the others is nothing
+-- what is found for some of the prefixes counts more than `most`; the others count as 0
 pub record HaveMore {Found : Type 0} (Finds : List ℕ → Found → Type 0) (size : Found → ℕ) (most : ℕ) (prefixes : List KindDigits) : Type 0 where
   pub some : List Found
   pub each : AllZip (λ (prefix : KindDigits) (one : Found). Finds prefix.digits one ⊎ (size one ≡ 0)) prefixes some
@@ -193,23 +195,24 @@ pub record HaveMore {Found : Type 0} (Finds : List ℕ → Found → Type 0) (si
 abbrev pub HaveMoreMatches : Type 0 → StoreView → ℕ → List KindDigits → Type 0
 HaveMoreMatches A view most prefixes = HaveMore {Found = Vec ObjectId A} (λ digits ids. AreMatches view digits ids.items) (λ ids. length ids.items) most prefixes
 
--- why several prefixes are not looked up: why one of them is not, or memory ran out
+-- why several prefixes are not looked up: the look-up of one of them fails, or memory ran out
 abbrev pub IsOfOne : (List ℕ → Error → Type 0) → List KindDigits → Error → Type 0
 IsOfOne Fails prefixes (Memory error) = Unit {0}
 IsOfOne Fails prefixes error = (prefix : KindDigits) × Contains prefixes prefix × Fails prefix.digits error
 
--- the names with the first byte of one of them are not read, or memory ran out
+-- the names with the first byte of one of the prefixes are not read, or memory ran out
 abbrev pub IsFaultOfOne : StoreView → List KindDigits → Error → Type 0
 IsFaultOfOne view prefixes error = IsOfOne (λ digits. IsStoreFault view (first_byte_of digits)) prefixes error
 
--- all locations of the object of these digits: one at the offset that the index of each pack has, if its bytes are known, and the last one if it is loose
+-- these are all locations of the object whose id has these digits: one at the offset that each pack index has, if its bytes are known, and last `Loose` if it
+-- is a loose object
 pub record AreLocations (view : StoreView) (digits : List ℕ) (locations : List Location) : Type 0 where
   pub small : first_byte_of digits < 256
   pub offsets : List (Option ℕ)
   pub read : AllZip (λ (pack : LazyIndex) (offset : Option ℕ). IfKnown (λ bytes. IsOffsetOf view.kind bytes digits offset) pack) view.packs offsets
   pub all : locations ≡ in_packs 0 offsets ++ loose_at digits view.loose
 
--- the places of n positions: the numbers below n in an order, each after a key
+-- these are the places of n positions: the numbers below n in some order, each after a key
 pub record ArePlaces (n : ℕ) (places : List (ℕ × ℕ)) : Type 0 where
   pub in_range : All (λ (place : ℕ × ℕ). place.1 < n) places
   pub order : IsPermutation (range_with_len 0 n) (map (λ (place : ℕ × ℕ). place.1) places)

@@ -1,4 +1,4 @@
-//! Why a store does not give what was asked.
+//! The error of a look-up in a store.
 
 ghost use Rattle.std.specs.Prelude.{◌≡◌};
 ghost use Rattle.object_store.specs.Stores.{of_index};
@@ -9,7 +9,7 @@ use std::alloc::AllocError;
 use std::io;
 use thiserror::Error as ThisError;
 
-/// Why a look-up in a store fails. Nothing of its result is known then.
+/// The reason why a look-up in a store fails. A look-up that fails returns no part of its result.
 ///
 /// ```
 /// match lookup_prefix(rt.alloc(), &mut store, &prefix) {
@@ -20,19 +20,21 @@ use thiserror::Error as ThisError;
 /// ```
 #[derive(Debug, Drop, ThisError)]
 pub enum Error {
-    /// A pack index cannot be read, or is damaged where it was read; and none before it.
+    /// A pack index cannot be read, or is damaged where it was read. No pack index of the store
+    /// before it is at fault.
     #[error("{path}: {error}")]
     Index {
-        /// Its path.
+        /// The path of the pack index.
         path: String,
-        /// Why.
+        /// The error of the read, or what is damaged.
         error: LazyError,
     },
-    /// A pack index was removed after it was listed, as by `git gc`, which has packed its objects
-    /// anew; and none before it is at fault. The store is to be opened again.
+    /// A pack index was removed after it was listed, as `git gc` does after it has packed its
+    /// objects anew. No pack index of the store before it is at fault. A program that still wants
+    /// the result opens the store again.
     #[error("{path}: removed since it was listed")]
     Gone {
-        /// Its path.
+        /// The path of the pack index.
         path: String,
     },
     /// There is not enough memory.
@@ -41,9 +43,9 @@ pub enum Error {
 }
 
 impl Error {
-    /// The error that the pack index of this path gives: [`Error::Gone`] if and only if a read
-    /// does not find its file, [`Error::Memory`] if and only if that is why, and else
-    /// [`Error::Index`].
+    /// Returns the error of a look-up for an error of the pack index at this path. It is
+    /// [`Error::Gone`] if and only if a read did not find the file, [`Error::Memory`] if and only
+    /// if the error is [`LazyError::Memory`], and otherwise [`Error::Index`].
     pub fn of_index(path: String, error: LazyError) -> Error
         ensures { result ≡ of_index path error }
     {

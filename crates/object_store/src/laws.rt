@@ -1,4 +1,5 @@
-//! Laws of stores that no single call carries. Each is the contract of a function.
+//! Laws of stores that belong to no single call. Each is the contract of a function that computes
+//! nothing: a call of it brings the law into a caller's proof.
 
 ghost use Rattle.std.specs.Prelude.{◌↔◌, ◌≡◌, ℕ, ◌<◌, ◌≤◌, Contains, List, [], length, slice_index_or};
 ghost use Rattle.id_lookup.specs.Words.{IsIndexOf, Kind, first_byte_of, matches};
@@ -8,8 +9,9 @@ ghost use Rattle.object_store.specs.declared.error.Error.{Error as StoreError};
 ghost use Rattle.object_store.specs.declared.parts.Location.{Location};
 ghost use Rattle.object_store.specs.declared.parts.Location.TheVariants.{Packed, Loose};
 
-/// If the bytes of a store are known and are those of pack indexes, then a look-up fails only
-/// because memory runs out, or a read fails of a pack index that is read from what may fail.
+/// If the bytes of a store's pack indexes are known, and each pack index is sound, then a look-up
+/// fails only because memory runs out, or because a read of a pack index fails. The latter happens
+/// only if reads from the source of that pack index may fail.
 pub fn failures()
     ensures buckets { (view : StoreView) (whole : List (List ℕ)) (byte : ℕ) (error : StoreError)
         → Holds view whole → IsStoreFault view byte error → IsIndexReadOrMemory view error }
@@ -18,9 +20,10 @@ pub fn failures()
         → IsIndexReadOrMemory view error }
 {}
 
-/// [`Parts::locate`](crate::Parts::locate) adds no location and leaves none out: an object is at an
-/// offset in a pack if and only if the pack index has its id, the first of which has that offset;
-/// and it is a loose object if and only if its id is one of the loose ids.
+/// If the pack indexes of a store are sound, then [`Parts::locate`](crate::Parts::locate) adds no
+/// location and leaves none out: [`whole`] says that it returns the locations of this law. An
+/// object is at an offset in a pack if and only if the pack index has its id, and the first entry
+/// with this id has the offset. It is a loose object if and only if its id is one of the loose ids.
 pub fn locations()
     ensures packed { (kind : Kind) (id : List ℕ) (indexes loose_ids : List (List ℕ))
         (pack offset : ℕ) → let bytes = slice_index_or indexes pack [] in
@@ -31,8 +34,9 @@ pub fn locations()
         → Contains (locations_of kind id indexes loose_ids) Loose ↔ Contains loose_ids id }
 {}
 
-/// What a store whose pack indexes are ones has read with a first byte are all of its ids that have
-/// it. So what is found is what the whole store has, and a name is one in the whole store.
+/// If the pack indexes of a store are sound, then the ids with a first byte that it reads are all
+/// of its ids with this byte. So a look-up of a prefix finds what the whole store has, an
+/// abbreviation is one in the whole store, and the locations of an object are all that it has.
 pub fn whole()
     ensures read { (view : StoreView) (whole : List (List ℕ)) (byte : ℕ) (read : List (List ℕ))
         (id : List ℕ) → Holds view whole → AreIdsRead view byte read → first_byte_of id ≡ byte

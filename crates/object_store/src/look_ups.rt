@@ -1,4 +1,4 @@
-//! Look-ups of a prefix, of several prefixes in their order, and of all ids with a first byte.
+//! Look-ups of a prefix, of several prefixes, and of all ids with a first byte.
 
 ghost use Rattle.std.specs.Prelude.{◌≡◌, ◌-◌, ◌<◌, ◌≤◌, ℕ, All, IfErr, IfNone, IfOk, IfSome, List, SomeIff, length, map, slice_index_or};
 ghost use Rattle.std.specs.List.{AllZip, sum_by};
@@ -15,10 +15,11 @@ use std::alloc::{AllocError, Allocator};
 
 /// The ids of a store that begin with a prefix, each once, in order.
 ///
-/// The prefix must have 2 digits or more, and the store's kind. Of each pack index only ids with
-/// the prefix's first byte are read: all, or, once they were found in order, some of them. The call
-/// allocates memory for these, and for the ids that are found. The error is that of reading them,
-/// or that memory ran out.
+/// The prefix must have 2 digits or more, and the store's kind. The loose objects with its first
+/// byte must be listed. The call reads only ids with this byte from each pack index: all of them,
+/// or, once they were found in order, some of them. It allocates memory for these ids, and for the
+/// ids that are found. The error is that of reading the ids with the prefix's first byte, or that
+/// memory ran out. Clauses see no change of the store.
 ///
 /// ```
 /// for id in lookup_prefix(rt.alloc(), &mut store, &prefix)?.iter() {
@@ -46,17 +47,19 @@ pub fn lookup_prefix<S: Store, A: Allocator + Copy>(
     ids
 }
 
-/// What is found in a store for each of several prefixes, in their order: the ids that begin with
-/// it ([`Matching`]), these with their locations ([`Locating`]), or the abbreviation of the only
-/// one ([`Abbreviating`]).
+/// Looks up several prefixes in a store, and returns what is found for each, in the order in which
+/// they are given: the ids that begin with it ([`Matching`]), these ids with their locations
+/// ([`Locating`]), or the abbreviation of the only one ([`Abbreviating`]).
 ///
-/// Each prefix must have 2 digits or more, and the store's kind. Of each pack index the ids with a
-/// first byte are read once, if a prefix has it, or, once they were found in order, some of them
-/// for each prefix. Memory is allocated for those with one first byte at a time. The error is that
-/// of looking up one of the prefixes, or that memory ran out.
+/// Each prefix must have 2 digits or more, and the store's kind. The loose objects with its first
+/// byte must be listed. The call reads the ids with each of these bytes once from each pack index,
+/// or, if they were found in order before, some of them for each prefix. It allocates memory for
+/// the ids with one first byte at a time, and for what is found. The error is that of looking up
+/// one of the prefixes, or that memory ran out. Clauses see no change of the store.
 ///
-/// `None` is returned if and only if there are several prefixes, and more than `most` is found for
-/// them; what is found for two of them counts twice.
+/// A call without an error returns `None` if and only if there are several prefixes, and more than
+/// `most` is found for them. What is found for two of them counts twice. Each kind of look-up says
+/// what it counts.
 ///
 /// ```
 /// if let Some(found) = look_up_each(rt.alloc(), &mut store, &prefixes, 65_536, &Matching)? {
@@ -93,7 +96,7 @@ pub fn look_up_each<S: Store, A: Allocator + Copy, L: LookUp<S, A>>(
     found
 }
 
-// The same by a cursor, in the order of the prefixes.
+// Does the same with a cursor, which looks up the prefixes sorted.
 fn look_up_in_order<S: Store, A: Allocator + Copy, L: LookUp<S, A>>(
     alloc: A,
     parts: &mut Parts<'_, S, A>,
@@ -131,7 +134,7 @@ fn look_up_in_order<S: Store, A: Allocator + Copy, L: LookUp<S, A>>(
     Ok(Some(found))
 }
 
-// What takes the place of what is not found yet, for each prefix.
+// Makes a placeholder for each prefix, in the place of what is not found yet.
 fn placeholders<S: Store, A: Allocator + Copy, L: LookUp<S, A>>(
     alloc: A,
     prefixes: &[Prefix],
@@ -147,8 +150,8 @@ fn placeholders<S: Store, A: Allocator + Copy, L: LookUp<S, A>>(
     Ok(found)
 }
 
-// The positions of prefixes, each after a key, in the order of the prefixes. So those with one
-// first byte follow each other, and a search for one begins near where it ends.
+// The positions of prefixes, each after a key, sorted by the keys. So prefixes with one first byte
+// follow each other, and the search for each begins near where it ends.
 fn in_order<A: Allocator>(alloc: A, prefixes: &[Prefix]) -> Result<Vec<(u64, usize), A>, AllocError>
     ensures { IfOk result (λ places. ArePlaces (length prefixes.now) places.items) }
 {
@@ -160,7 +163,7 @@ fn in_order<A: Allocator>(alloc: A, prefixes: &[Prefix]) -> Result<Vec<(u64, usi
     Ok(places)
 }
 
-// The first eight bytes of a prefix, with zeros after its digits.
+// The first 8 bytes of a prefix as a number, with zeros after the prefix's digits.
 fn key_of(prefix: &Prefix) -> u64 {
     match prefix.as_oid().as_bytes().first_chunk() {
         Some(bytes) => u64::from_be_bytes(*bytes),
@@ -168,7 +171,7 @@ fn key_of(prefix: &Prefix) -> u64 {
     }
 }
 
-/// What [`look_up_each`] looks up for each prefix.
+/// The kind of look-up that [`look_up_each`] makes for each prefix.
 ///
 /// ```
 /// let found = look_up_each(rt.alloc(), &mut store, &prefixes, 65_536, &Matching)?;
@@ -181,23 +184,25 @@ pub trait LookUp<S: Store, A: Allocator + Copy> {
     /// What is found for a prefix.
     type Found: Drop;
 
-    /// What it requires of a store.
+    /// What the look-up requires of a store.
     ghost fits: { Self → StoreView → Type 0 };
 
-    /// What of a store is found for a prefix of these digits.
+    /// What is found in a store for a prefix of these digits.
     ghost finds: { Self → S → List ℕ → Self.Found → Type 0 };
 
-    /// Why it is not found.
+    /// Why the look-up of a prefix of these digits fails.
     ghost fails: { Self → StoreView → List ℕ → StoreError → Type 0 };
 
-    /// How much was found.
+    /// How much was found, as it counts against the most that [`look_up_each`] returns.
     ghost size: { Self.Found → ℕ };
 
-    /// Takes the place of what is not found yet.
+    /// Makes what stands in the place of a result that is not found yet, and counts as 0.
     fn placeholder(&self, alloc: A) -> Self::Found
         ensures { size result ≡ 0 };
 
-    /// Looks a prefix up.
+    /// Looks up a prefix, which must have 2 digits or more and the store's kind, with a cursor. The
+    /// loose objects with the prefix's first byte must be listed. Each kind of look-up says what
+    /// its errors are. Clauses see no change of the store.
     fn look_up(&self, parts: &mut Parts<'_, S, A>, prefix: &Prefix) -> Result<Self::Found, Error>
         requires fits { fits self.now (S.view parts.old.now) }
         requires can { CanLookUp (S.view parts.old.now) prefix.now }
@@ -206,13 +211,14 @@ pub trait LookUp<S: Store, A: Allocator + Copy> {
         ensures err { IfErr result (fails self.now (S.view parts.old.now)
             prefix.now.digits) };
 
-    /// What is left of some room after what was found, or `None` if this is more.
+    /// Returns how much of `room` is left after what was found, or `None` if more was found than
+    /// `room`.
     fn left(&self, found: &Self::Found, room: usize) -> Option<usize>
         ensures { SomeIff result (size found.now ≤ room) (room - size found.now) };
 }
 
 /// Looks up the ids that begin with a prefix, each once, in order, as [`lookup_prefix`] does. Each
-/// id counts.
+/// id counts as 1.
 #[derive(Drop)]
 pub struct Matching;
 
@@ -245,10 +251,10 @@ impl<S: Store, A: Allocator + Copy> LookUp<S, A> for Matching {
 }
 
 /// Looks up the ids that begin with a prefix, with their locations, as [`Parts::locate_prefix`]
-/// does. Each location counts.
+/// does. Each location counts as 1.
 #[derive(Drop)]
 pub struct Locating {
-    /// How many ids of a prefix are located, or all.
+    /// How many ids of a prefix are located at most, from the first on, or `None` for all of them.
     pub limit: Option<usize>,
 }
 
@@ -286,10 +292,11 @@ impl<S: StorePaths, A: Allocator + Copy> LookUp<S, A> for Locating {
 }
 
 /// Looks up the abbreviation of the only id that begins with a prefix, as
-/// [`Parts::abbreviate_prefix`] does. A prefix counts if an id begins with it.
+/// [`Parts::abbreviate_prefix`] does. A prefix counts as 1 if an id begins with it, and else as 0.
 #[derive(Drop)]
 pub struct Abbreviating {
-    /// The smallest number of digits of an abbreviation, from 4 to 40 or 64, by the kind.
+    /// The smallest number of digits of an abbreviation, from 4 up to the number of digits of an
+    /// id, which is 40 or 64 by the kind.
     pub least: usize,
 }
 
@@ -321,11 +328,13 @@ impl<S: Store, A: Allocator + Copy> LookUp<S, A> for Abbreviating {
 }
 
 /// The ids of a store with a first byte, each once, in order, with their abbreviations in the whole
-/// store, of at least `least` digits. `least` must be from 4 to 40 or 64, by the kind.
+/// store, of at least `least` digits. `least` must be from 4 up to the number of digits of an id,
+/// which is 40 or 64 by the kind. The loose objects with this byte must be listed.
 ///
-/// No other id begins with an abbreviation, which is as short as that allows. The calls for all 256
-/// bytes give all ids of the store, in order. The error is that of reading the ids with this first
-/// byte, or that memory ran out.
+/// No other id of the store begins with an abbreviation, and each abbreviation is as short as that
+/// and `least` allow. The calls for all 256 bytes, one after the other, return all ids of the store
+/// in order. The error is that of reading the ids with this first byte, or that memory ran out.
+/// Clauses see no change of the store.
 ///
 /// ```
 /// for byte in 0..=255 {
@@ -351,7 +360,7 @@ pub fn abbreviate_part<S: Store, A: Allocator + Copy>(
     Ok(name_all(alloc, &ids, kind, least)?)
 }
 
-// Each id of an index with its abbreviation there.
+// The ids of an index, each with its abbreviation in the index.
 fn name_all<A: Allocator>(
     alloc: A,
     ids: &[ObjectId],

@@ -1,4 +1,4 @@
-//! A cursor over the parts of a store, and what it finds in one.
+//! A cursor over the parts of a store, and what it finds in a part.
 
 ghost use Rattle.std.specs.Prelude.{◌≡◌, ◌⊎◌, ◌≤◌, ◌<◌, ◌/◌, ◌%◌, ◌++◌, [], ◌∷◌, All, IfErr, IfOk, IsTrue, OnOk, Some, flat_map, length, map, nat_eq, slice_get, take, true};
 ghost use Rattle.std.specs.List.{starts_with};
@@ -15,15 +15,15 @@ use pack_index::Bucket;
 use std::alloc::{AllocError, Allocator};
 use std::marker::Model;
 
-// How many ids of a pack index with a first byte are read for one look-up, and not searched for
-// fewer.
+// A single look-up reads all ids of a pack index with a first byte if they are at most this many,
+// and does not search for fewer.
 const FEW_IDS: usize = 32;
 
-/// A cursor over a store, which holds a part of its ids: those with one first byte, or some of them
-/// among which are all that begin with a prefix. They are read when something else is looked up. So
-/// look-ups in the order of what is looked up read each part once, and hold memory for one at a
-/// time. Those with which an abbreviation was compared are kept too, until one is compared with
-/// others.
+/// A cursor over a store. It holds a part of the store's ids: all with one first byte, or some of
+/// them, among which are all that begin with a prefix. It reads another part when something that is
+/// not in this one is looked up. So look-ups in sorted order read each part once, and the cursor
+/// holds memory for one part at a time. It also keeps the ids with which it has compared an
+/// abbreviation, until it compares one with others.
 ///
 /// ```
 /// let mut parts = Parts::new(rt.alloc(), &mut store);
@@ -35,19 +35,19 @@ const FEW_IDS: usize = 32;
 pub struct Parts<'s, S: Store, A: Allocator> {
     alloc: A,
     store: &'s mut S,
-    // How many ids of a pack index with a first byte are read, and not searched for fewer.
+    // All ids of a pack index with a first byte are read if they are at most this many.
     few: usize,
-    // The last that was read.
+    // The part that was read last.
     part: Option<Part<A>>,
-    // The last among which an abbreviation was looked up.
+    // The ids among which an abbreviation was looked up last.
     front: Option<Front<A>>,
 }
 
-// Names of pack indexes, among which are all that begin with a prefix.
+// Ids of pack indexes, among which are all that begin with a prefix.
 #[derive(Drop)]
 struct Part<A: Allocator> {
     prefix: Prefix,
-    // Those of each pack index.
+    // The ids of each pack index.
     buckets: Vec<Bucket<A>, A>,
 }
 
@@ -74,15 +74,15 @@ impl<'s, S: Store, A: Allocator> Model for Parts<'s, S, A> {
 }
 
 impl<'s, S: Store, A: Allocator + Copy> Parts<'s, S, A> {
-    /// It has read nothing yet.
+    /// Makes a cursor over a store. It has read nothing yet.
     pub fn new(alloc: A, store: &'s mut S) -> Parts<'s, S, A>
         ensures { result ≡ store.entry }
     {
         Parts::for_many(alloc, store, 1)
     }
 
-    // The same, for about so many look-ups: the more they are, the more ids are read for those that
-    // follow.
+    // Makes a cursor for about `count` look-ups. The more look-ups there are, the more ids are read
+    // at once for those that follow.
     pub(crate) fn for_many(alloc: A, store: &'s mut S, count: usize) -> Parts<'s, S, A>
         ensures { result ≡ store.entry }
     {
@@ -95,7 +95,7 @@ impl<'s, S: Store, A: Allocator + Copy> Parts<'s, S, A> {
         }
     }
 
-    /// The store, as it was.
+    /// Returns the store, as it was.
     pub fn into_store(self) -> &'s mut S
         ensures { result ≡ self.entry }
     {
@@ -110,9 +110,11 @@ impl<'s, S: Store, A: Allocator + Copy> Parts<'s, S, A> {
         &*self.store
     }
 
-    /// The ids of the store that begin with a prefix, each once, in order. The prefix has 2 digits
-    /// or more, and the store's kind. The error is that of reading the ids with the prefix's first
-    /// byte, or that memory ran out.
+    /// The ids of the store that begin with a prefix, each once, in order.
+    ///
+    /// The prefix must have 2 digits or more, and the store's kind. The loose objects with its
+    /// first byte must be listed. The error is that of reading the ids with the prefix's first
+    /// byte, or that memory ran out. Clauses see no change of the store.
     pub fn lookup_prefix(&mut self, prefix: &Prefix) -> Result<Vec<ObjectId, A>, Error>
         requires { CanLookUp (S.view self.old.now) prefix.now }
         ensures store { self.new ≡ self.old }
@@ -127,10 +129,13 @@ impl<'s, S: Store, A: Allocator + Copy> Parts<'s, S, A> {
         Ok(ids?)
     }
 
-    /// The abbreviation of an id in the store, of at least `least` digits; or `None` if the store
-    /// does not have the id. `least` must be from 4 to 40 or 64, by the kind. The id has the
-    /// store's kind. The error is that of reading the ids with the id's first byte, or that memory
-    /// ran out.
+    /// The abbreviation of an id in the store, of at least `least` digits, or `None` if the store
+    /// does not have the id.
+    ///
+    /// `least` must be from 4 up to the number of digits of an id, which is 40 or 64 by the kind.
+    /// The id must have the store's kind, and the loose objects with its first byte must be listed.
+    /// The error is that of reading the ids with the id's first byte, or that memory ran out.
+    /// Clauses see no change of the store.
     pub fn abbreviate(&mut self, id: &ObjectId, least: usize) -> Result<Option<Prefix>, Error>
         requires kind { id_kind id.now ≡ (S.view self.old.now).kind }
         requires listed { IsListed (S.view self.old.now) (first_byte_of (id_digits id.now)) }
@@ -151,9 +156,12 @@ impl<'s, S: Store, A: Allocator + Copy> Parts<'s, S, A> {
     }
 
     /// The abbreviation of the only id in the store that begins with a prefix, of at least `least`
-    /// digits, from 4 to 40 or 64, by the kind. The prefix has 2 digits or more, and the store's
-    /// kind. The error is that of reading the ids with the prefix's first byte, or that memory ran
-    /// out.
+    /// digits, or whether no id or more than one begins with it.
+    ///
+    /// `least` must be from 4 up to the number of digits of an id, which is 40 or 64 by the kind.
+    /// The prefix must have 2 digits or more, and the store's kind. The loose objects with its
+    /// first byte must be listed. The error is that of reading the ids with the prefix's first
+    /// byte, or that memory ran out. Clauses see no change of the store.
     pub fn abbreviate_prefix(
         &mut self,
         prefix: &Prefix,
@@ -174,8 +182,8 @@ impl<'s, S: Store, A: Allocator + Copy> Parts<'s, S, A> {
         Ok(found)
     }
 
-    // The ids that begin with a prefix: the last among which an abbreviation was looked up, if they
-    // do.
+    // Takes the ids that begin with a prefix out of the cursor if it keeps them, and else looks
+    // them up.
     fn take_front(&mut self, prefix: Prefix) -> Result<Front<A>, Error>
         requires { CanLookUp (S.view self.old.now) prefix }
         ensures store { self.new ≡ self.old }
@@ -195,12 +203,13 @@ impl<'s, S: Store, A: Allocator + Copy> Parts<'s, S, A> {
     }
 
     /// All locations of an object: one in each pack whose index has its id, in the order of
-    /// [`Store::indexes`], and last [`Location::Loose`] if it is a loose object. The id has the
-    /// store's kind.
+    /// [`Store::indexes`], and last [`Location::Loose`] if it is a loose object.
     ///
-    /// If a pack index has the id more than once, the offset is that of the first. It is read once
-    /// the id was looked for in all pack indexes. The error is that of reading ids with this first
-    /// byte or an offset, or that memory ran out.
+    /// The id must have the store's kind, and the loose objects with its first byte must be listed.
+    /// If a pack index has the id more than once, the offset is that of its first entry. Offsets
+    /// are read after the ids with this first byte were read from all pack indexes. The error is
+    /// that of reading these ids or an offset, or that memory ran out. Clauses see no change of the
+    /// store.
     pub fn locate(&mut self, id: &ObjectId) -> Result<Vec<Location, A>, Error>
         requires kind { id_kind id.now ≡ (S.view self.old.now).kind }
         requires listed { IsListed (S.view self.old.now) (first_byte_of (id_digits id.now)) }
@@ -220,8 +229,8 @@ impl<'s, S: Store, A: Allocator + Copy> Parts<'s, S, A> {
         locations
     }
 
-    // Names of the pack indexes, among which are all that begin with a prefix: the last that were
-    // read, if they are such.
+    // Takes ids of the pack indexes, among which are all that begin with a prefix, out of the
+    // cursor if it holds such ids, and else reads them.
     #[inline(always)]
     fn take_part(&mut self, prefix: &Prefix) -> Result<Part<A>, Error>
         requires enough { 2 ≤ length prefix.now.digits }
@@ -248,12 +257,14 @@ impl<'s, S: Store, A: Allocator + Copy> Parts<'s, S, A> {
 }
 
 impl<'s, S: StorePaths, A: Allocator + Copy> Parts<'s, S, A> {
-    /// The ids of the store that begin with a prefix, each once, in order, with their locations: of
-    /// the first `limit` ids, or of all if it is `None`. Two are enough to see whether there is
-    /// one, or more.
+    /// The ids of the store that begin with a prefix, each once, in order, with their locations:
+    /// the first `limit` ids, or all of them if `limit` is `None`. A limit of 2 ids is enough to
+    /// see whether there is exactly one.
     ///
-    /// The prefix has 2 digits or more, and the store's kind. The error is that of reading the ids
-    /// with its first byte, or the offset of an id that is located, or that memory ran out.
+    /// The prefix must have 2 digits or more, and the store's kind. The loose objects with its
+    /// first byte must be listed. The error is that of reading the ids with the prefix's first
+    /// byte, or the offset of an id that is located, or that memory ran out. Clauses see no change
+    /// of the store.
     pub fn locate_prefix(
         &mut self,
         prefix: &Prefix,
@@ -279,9 +290,9 @@ fn begins_with(prefix: &Prefix, front: &Prefix) -> bool
     front.hex_len() <= prefix.hex_len() && front.cmp_oid(prefix.as_oid()).is_eq()
 }
 
-// The prefix of which names are read to look one up: the same, if a pack index reads only some of
-// those with its first byte; or else the two digits of that byte, of which all serve for the next
-// one too.
+// The prefix for which ids are read to look a prefix up. It is the same prefix if a pack index
+// reads only some of its ids with the first byte. Otherwise it is the two digits of this byte,
+// since all ids with this byte serve the next look-up too.
 fn prefix_to_read<S: Store>(store: &S, prefix: &Prefix, few: usize) -> Prefix
     requires { 2 ≤ length prefix.now.digits }
     ensures kind { result.kind ≡ prefix.now.kind }
@@ -300,9 +311,9 @@ fn prefix_to_read<S: Store>(store: &S, prefix: &Prefix, few: usize) -> Prefix
     two_digits(prefix.as_oid().kind(), byte)
 }
 
-// Reads the names of a store among which are all that begin with a prefix. The error is that of the
-// first pack index that cannot be read, is damaged where it is read, or for whose names there is no
-// memory.
+// Reads ids of the pack indexes, among which are all that begin with a prefix. The error is that of
+// the first pack index that cannot be read, is damaged where it is read, or for whose ids there is
+// no memory.
 fn read_parts<S: Store, A: Allocator + Copy>(
     alloc: A,
     store: &mut S,
@@ -330,7 +341,7 @@ fn read_parts<S: Store, A: Allocator + Copy>(
     Ok(buckets)
 }
 
-// The ids that begin with a prefix, by names of the pack indexes among which all of them are.
+// The ids of a store that begin with a prefix. Those in packs are all among the ids in the buckets.
 fn matches_in<S: Store, A: Allocator + Copy>(
     alloc: A,
     store: &S,
@@ -353,7 +364,7 @@ fn matches_in<S: Store, A: Allocator + Copy>(
     Ok(ids)
 }
 
-// Adds the ids of buckets of a kind that begin with a prefix.
+// Adds the ids in buckets that begin with a prefix. The buckets are of the kind.
 fn push_packed<A: Allocator>(
     ids: &mut Vec<ObjectId, A>,
     buckets: &[Bucket<A>],
@@ -374,7 +385,7 @@ fn push_packed<A: Allocator>(
     Ok(())
 }
 
-// Adds ids of a kind.
+// Adds more ids, which are of the kind.
 fn push_all<A: Allocator>(
     ids: &mut Vec<ObjectId, A>,
     more: &[ObjectId],
@@ -401,14 +412,14 @@ fn push_all<A: Allocator>(
 /// ```
 #[derive(Clone, Copy, PartialEq, Eq, Debug)]
 pub enum Location {
-    /// In a pack.
+    /// The object is in a pack.
     Packed {
-        /// The position of its pack index among those of the store, from 0.
+        /// The position of the pack's index among [`Store::indexes`], from 0.
         pack: usize,
-        /// The offset in the pack, in bytes.
+        /// The offset of the object in the pack, in bytes.
         offset: u64,
     },
-    /// Among the loose objects.
+    /// The object is a loose object.
     Loose,
 }
 
@@ -429,7 +440,8 @@ pub struct LocatedId<A: Allocator> {
     pub loose_paths: Vec<String>,
 }
 
-// Of the ids that begin with a prefix the first up to the limit, with their locations.
+// Locates the ids that begin with a prefix: the first ones up to the limit, or all if there is no
+// limit.
 fn locate_ids<S: StorePaths, A: Allocator + Copy>(
     parts: &mut Parts<'_, S, A>,
     ids: &[ObjectId],
@@ -460,7 +472,7 @@ fn locate_ids<S: StorePaths, A: Allocator + Copy>(
     Ok(located)
 }
 
-// The first of some ids, as many as the limit, or all if there is none.
+// The first ids of a list, at most as many as the limit, or all if there is no limit.
 fn limited_to(ids: &[ObjectId], limit: Option<usize>) -> &[ObjectId]
     ensures { result.now ≡ limited_to limit ids.now }
 {
@@ -470,7 +482,7 @@ fn limited_to(ids: &[ObjectId], limit: Option<usize>) -> &[ObjectId]
     }
 }
 
-// All locations of an object, by names of the pack indexes among which its id is.
+// All locations of an object. Its id is in the bucket of each pack index that has it.
 fn locate_in<S: Store, A: Allocator + Copy>(
     alloc: A,
     store: &S,
@@ -518,11 +530,12 @@ fn push<T: Drop, A: Allocator>(items: &mut Vec<T, A>, item: T) -> Result<(), All
 pub struct NamedId {
     /// The id.
     pub id: ObjectId,
-    /// Its first digits, with which no other id of the store begins.
+    /// Its abbreviation: its first digits, with which no other id of the store begins.
     pub name: Prefix,
 }
 
-/// The only id of a store that begins with a prefix, or that there is none or more than one.
+/// The only id of a store that begins with a prefix, with its abbreviation, or whether no id or
+/// more than one begins with it.
 ///
 /// ```
 /// match Parts::new(rt.alloc(), &mut store).abbreviate_prefix(&prefix, 4)? {
@@ -537,11 +550,11 @@ pub enum Abbreviation {
     Missing,
     /// More than one id begins with it.
     Ambiguous,
-    /// One id begins with it.
+    /// Exactly one id begins with it.
     Named(NamedId),
 }
 
-// The prefix of a kind that all ids with a first byte begin with.
+// The two digits of a first byte as a prefix of the kind. All ids with this byte begin with it.
 pub(crate) fn two_digits(kind: Kind, byte: u8) -> Prefix
     ensures kind { result.kind ≡ kind }
     ensures digits { result.digits ≡ byte / 16 ∷ byte % 16 ∷ [] }
@@ -562,7 +575,7 @@ fn front_of(prefix: &Prefix, least: usize) -> Prefix
     Prefix::new(prefix.as_oid(), least).unwrap()
 }
 
-// The id at a position of an index with its abbreviation there.
+// The id at a position of an index, with its abbreviation in the index.
 #[inline(always)]
 pub(crate) fn named_at(ids: &[ObjectId], kind: Kind, at: usize, least: usize) -> NamedId
     requires in_range { at < length ids.now }
@@ -580,8 +593,8 @@ pub(crate) fn named_at(ids: &[ObjectId], kind: Kind, at: usize, least: usize) ->
     }
 }
 
-// The abbreviation of the only id of an index of a prefix's kind that begins with the prefix. It is
-// found by binary search, and compared with its two neighbours.
+// The abbreviation of the only id of an index that begins with a prefix. The index is of the
+// prefix's kind. The id is found by binary search, and compared with its two neighbours.
 fn abbreviation_in(ids: &[ObjectId], prefix: &Prefix, least: usize) -> Abbreviation
     requires index { IsIndex prefix.now.kind (map id_digits ids.now) }
     requires kinds { All (λ id. id_kind id ≡ prefix.now.kind) ids.now }
@@ -590,7 +603,7 @@ fn abbreviation_in(ids: &[ObjectId], prefix: &Prefix, least: usize) -> Abbreviat
     ensures { IsAbbreviatedAs least prefix.now.kind (map id_digits ids.now)
         (matches prefix.now.digits (map id_digits ids.now)) result }
 {
-    // Its contract says how many digits the prefix has at most.
+    // The contract of this call says how many digits the prefix has at most.
     let _hex_len = prefix.hex_len();
     let run = find_assuming_sorted(ids, prefix);
     match run.end - run.start {

@@ -1,4 +1,4 @@
-//! What an object store is to a look-up.
+//! The object store that a look-up reads, and the table of its loose ids.
 
 ghost use Rattle.std.specs.Prelude.{◌≡◌, ◌<◌, ◌≤◌, ◌↔◌, All, Contains, IsTrue, length, map};
 ghost use Rattle.id_lookup.specs.Words.{IsIndexOf, hex_len_of, id_digits, id_kind, matches};
@@ -25,24 +25,25 @@ pub trait Store {
     ghost use Rattle.object_store.specs.Stores.{StoreView};
     ghost use Rattle.pack_index.specs.Lazy.{IfKnown, IsBucketFault, IsPartOf, LazyIndex};
 
-    /// What the bytes of a pack index are read from.
+    /// The source from which the bytes of a pack index are read.
     type Source: ReadAt + Drop;
 
-    /// What it has: the kind of all ids, the pack indexes, their paths, and the ids of the loose
-    /// objects, of all or of those with one first byte.
+    /// What the store has: the kind of all ids, the pack indexes, their paths, and the ids of the
+    /// loose objects, of all or of those with one first byte.
     ghost view: { Self → StoreView };
 
     /// The kind of all ids.
     fn object_hash(&self) -> Kind
         ensures { result ≡ (view self.now).kind };
 
-    /// The pack indexes.
+    /// The pack indexes, which are all of the store's kind.
     fn indexes(&self) -> &[LazyFile<Self::Source>]
         ensures value { result.now ≡ (view self.now).packs }
         ensures kinds { All (λ pack. pack.kind ≡ (view self.now).kind) (view self.now).packs };
 
-    /// What [`LazyFile::part`] gives of the pack index at a position among [`Store::indexes`], from
-    /// 0, for a prefix of 2 digits or more. What clauses see of the store stays.
+    /// Calls [`LazyFile::part`] of the pack index at a position among [`Store::indexes`], from 0.
+    /// The prefix must have 2 digits or more, and at most as many as an id of the store's kind. The
+    /// errors are those of that call, and clauses see no change of the store.
     fn part<A: Allocator>(
         &mut self,
         alloc: A,
@@ -61,12 +62,13 @@ pub trait Store {
             IfKnown (λ bytes. IsBucketFault pack.can_fail pack.kind bytes
             (first_byte_of prefix.now.digits) e) pack) };
 
-    /// The path of the pack index at a position among [`Store::indexes`], from 0, for errors.
+    /// The path of the pack index at a position among [`Store::indexes`], from 0, as errors give
+    /// it. The only error is that memory ran out.
     fn index_path(&self, at: usize) -> Result<String, AllocError>
         ensures { IfOk result (λ path. string_bytes path
             ≡ slice_index_or (view self.now).paths at []) };
 
-    /// The ids of the loose objects.
+    /// The ids of the loose objects that were listed.
     fn loose(&self) -> &LooseTable
         ensures { result.now
             ≡ record { kind = (view self.now).kind; ids = (view self.now).loose } };
@@ -87,20 +89,22 @@ pub trait StorePaths: Store {
     /// The path of each pack, by the position of its pack index.
     ghost pack_path: { Self → ℕ → List ℕ };
 
-    /// The paths of the files of each loose object, by its digits.
+    /// The paths of the files of each loose object, by the digits of its id.
     ghost loose_paths: { Self → List ℕ → List (List ℕ) };
 
     /// The path of the pack whose pack index is at a position among [`Store::indexes`], from 0.
     fn pack_path(&self, pack: usize) -> &str
         ensures { result.now ≡ pack_path self.now pack };
 
-    /// The paths of the files of a loose object; none if it is not loose.
+    /// The paths of the files of a loose object, of which there are none if the object is not
+    /// loose. The only error is that memory ran out.
     fn loose_paths(&self, id: &ObjectId) -> Result<Vec<String>, AllocError>
         ensures { IfOk result (λ paths. map string_bytes paths.items
             ≡ loose_paths self.now (id_digits id.now)) };
 }
 
-/// A store that can be opened again, as it is then, after a pack index is gone that it has listed.
+/// A store that can be opened again, with what is there at that time, after a pack index that it
+/// has listed is gone.
 ///
 /// ```
 /// let found = lookup_prefix(rt.alloc(), &mut store, &prefix);
@@ -112,19 +116,20 @@ pub trait Reopen: Store {
     ghost use Rattle.std.specs.Prelude.{◌≡◌, false};
     ghost use Rattle.object_store.specs.Stores.{IsReopened, StoreView};
 
-    /// What it may have after it is opened again, once or more often.
+    /// What the store may have after it is opened again, once or more often.
     ghost may_have: { Self → StoreView → Type 0 };
 
-    /// Opens the store again, and returns whether that was possible; if not, it has what it had.
-    /// Its kind stays, and of which first byte the loose objects are listed.
+    /// Opens the store again, and returns whether that was possible; if it was not, the store has
+    /// what it had. The kind stays the same. Loose objects are listed for all first bytes, or for
+    /// the same one, as before.
     fn reopen(&mut self) -> bool
         ensures reopened { IsReopened (may_have self.old) (may_have self.new) (Self.view self.old)
             (Self.view self.new) }
         ensures failed { result ≡ false → Self.view self.new ≡ Self.view self.old };
 }
 
-/// The ids of loose objects, each once, in order. Those that begin with a prefix, and a single one,
-/// are found by binary search.
+/// A table of the ids of loose objects, each once, in order. It finds the ids that begin with a
+/// prefix, and a single id, by binary search.
 ///
 /// ```
 /// let loose = LooseTable::new(vec![in rt.alloc(); id]?, id.kind());
@@ -152,7 +157,8 @@ impl Model for LooseTable {
 }
 
 impl LooseTable {
-    /// The ids of a list, in any order; one may occur several times. All must be of the kind.
+    /// Makes a table of the ids of a list, which may be in any order, and each more than once. All
+    /// of them must be of the kind.
     pub fn new(mut ids: Vec<ObjectId>, kind: Kind) -> LooseTable
         requires { All (λ id. id_kind id ≡ kind) ids.items }
         ensures kind { result.kind ≡ kind }
@@ -171,7 +177,8 @@ impl LooseTable {
         &self.ids
     }
 
-    /// Those that begin with a prefix, in order. It has at most as many digits as they have.
+    /// The ids that begin with a prefix, in order. The prefix must have at most as many digits as
+    /// an id of the table's kind.
     pub fn beginning_with(&self, prefix: &Prefix) -> &[ObjectId]
         requires { length prefix.now.digits ≤ hex_len_of self.now.kind }
         ensures ids { map id_digits result.now ≡ matches prefix.now.digits self.now.ids }
@@ -182,7 +189,7 @@ impl LooseTable {
         &ids[run.start..run.end]
     }
 
-    /// Whether an id is one of them.
+    /// Whether an id is in the table. An id of another kind is not.
     pub fn contains(&self, id: &ObjectId) -> bool
         ensures { IsTrue result ↔ Contains self.now.ids (id_digits id.now) }
     {

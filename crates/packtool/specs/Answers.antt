@@ -13,7 +13,7 @@ use Rattle.directory_store.specs.declared.error.Error.{Error}
 abbrev pub IsStatus : List Error → Bool → ℕ → Type 0
 IsStatus skipped any status = (skipped ≡ [] → status ≡ (if any then 0 else 1)) × (skipped ≢ [] → status ≡ 2)
 
--- what a question finds for lines was written, and this is why the first that has no answer has none; A is the type of the allocator of what was found
+-- what a question finds for lines was written, and `why` is why the first line that has no answer has none; A is the type of the allocator of what was found
 abbrev pub HasAnsweredLines : (A : Type 0) → Question → Answers → ℕ → (ℕ → List ℕ) → (List ℕ → List (List ℕ)) → StoreView → List (List ℕ)
     → Option NoAnswer → Option (List ℕ) → Option (List ℕ) → Type 0
 HasAnsweredLines A Find answers least pack_path loose_paths view lines why old new = HasAnsweredMatches A answers view lines why old new

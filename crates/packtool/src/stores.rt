@@ -64,8 +64,8 @@ trait AnswerLines {
     // What is asked, and the fewest digits of an abbreviation.
     ghost asked: { Self → Question × ℕ };
 
-    // What it wrote for lines, with the store that it keeps; the status, and why the first line
-    // that has no answer has none.
+    // It wrote what the store that it keeps has for lines, and ended with a status and with why the
+    // first line that has no answer has none.
     ghost is_answer: { Question × ℕ → Answers → Self → List ℕ → ℕ × Option NoAnswer
         → Option (List ℕ) → Option (List ℕ) → Type 0 };
 
@@ -150,7 +150,7 @@ impl Asked<'_> {
     }
 
     // Prints what is found for a prefix, as for a line of standard input. If one id is asked for,
-    // and there is none, or more than one, that is reported.
+    // and there is none, or more than one, it reports which of the two it is.
     fn answer_prefix<'a>(&mut self, text: &'a str, answers: Answers) -> Result<u8, Failure<'a>> {
         expect_prefix(text, self.directory.kind)?;
         let mut out = buffered(self.rt, self.rt.stdout())?;
@@ -197,8 +197,8 @@ impl Asked<'_> {
         if was_whole? { Ok(status) } else { Ok(FAILED) }
     }
 
-    // Writes what each of the lines finds in a store, and returns why the first that has no answer
-    // has none.
+    // Writes what each of the lines finds in a store, and returns why the first line that has no
+    // answer has none.
     fn ask_for_lines<S: Reopen + StorePaths, W: Sink>(
         &self,
         store: &mut S,
@@ -236,7 +236,8 @@ impl Asked<'_> {
         }
     }
 
-    // What a command found over a store, which is kept, and whether nothing of it was skipped.
+    // Keeps a store, except after a look-up in it that failed. Returns what a command found over
+    // the store, and whether nothing of the store was skipped.
     fn keep<'a, T: Drop, W>(
         &mut self,
         store: DirectoryStore<HostRuntime>,

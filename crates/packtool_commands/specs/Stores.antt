@@ -64,8 +64,8 @@ front_text (Some line) = line ++ 32 ∷ []
 abbrev pub id_line : Option (List ℕ) → List ℕ → List ℕ
 id_line line id = front_text line ++ (spelling hex_letter id ++ 10 ∷ [])
 
--- what is printed for a prefix by what was found, where each thing that was found has a text: all of it, each after the line or alone, or the only one; and
--- if there is none, or more than one, that it is so, or nothing
+-- what is printed for a prefix by what was found, where each thing that was found has a text: all texts, each after the line or alone, or the only one; and if
+-- there is none, or more than one and one is asked for, the line and which of the two it is, or nothing
 abbrev pub found_text : {X : Type 0} → (Option (List ℕ) → X → List ℕ) → Answers → List ℕ → List X → List ℕ
 found_text text answers_of.All line [] = line_with line (codes "missing")
 found_text text answers_of.All line (x ∷ xs) = flat_map (text (Some line)) (x ∷ xs)
@@ -84,7 +84,7 @@ limit_for answers_of.One = Some 2
 limit_for answers_of.Bare = None
 limit_for answers_of.BareOne = Some 2
 
--- why they are no answer, if they are none: there is none, or more than one, and one is asked for
+-- why the things that were found are not an answer, or none if they are one: there is none, or more than one and one is asked for
 abbrev pub no_answer : {X : Type 0} → Answers → List X → Option NoAnswer
 no_answer answers [] = Some no_answers.Missing
 no_answer answers (x ∷ []) = None
@@ -110,12 +110,12 @@ answer_of text (line, Some x) = text line x
 unfoldable pub answers_by : {X : Type 0} → (List ℕ → X → List ℕ) → Kind → List (List ℕ) → List X → List ℕ
 answers_by text kind lines found = flat_map (answer_of text) (with_found (marked kind lines) found)
 
--- why the first line that has no answer has none, by why what was found for a prefix is none
+-- why the first line that has no answer has none, where `lacks` says why what was found for a prefix is not an answer
 unfoldable pub no_answer_by : {X : Type 0} → (X → Option NoAnswer) → Kind → List (List ℕ) → List X → Option NoAnswer
 no_answer_by lacks kind lines found =
     fold (λ before answer. option_or before (option_map_or lacks answer.1 (Some no_answers.Bad))) None (with_found (marked kind lines) found)
 
--- what is printed for lines by what was found for the prefixes among them was written, and why the first that has no answer has none was returned
+-- what is printed for lines, by what was found for the prefixes among them, was written, and `why` is why the first line that has no answer has none
 pub record HasAnsweredBy {X : Type 0} (AreFound : List X → Type 0) (text : List ℕ → X → List ℕ) (lacks : X → Option NoAnswer) (kind : Kind)
     (lines : List (List ℕ)) (why : Option NoAnswer) (old new : Option (List ℕ)) : Type 0 where
   pub results : List X
@@ -130,7 +130,8 @@ pub record HasAnsweredByPart {X : Type 0} (AreFound : List X → Type 0) (text :
   pub are_found : AreFound results
   pub written : AppendsPart old new (answers_by text kind lines results)
 
--- the ids that begin with each prefix were found and printed; A is the type of the allocator of what was found
+-- the ids that begin with each prefix were found and printed, and `why` is why the first line that has no answer has none; A is the type of the allocator of
+-- what was found
 abbrev pub HasAnsweredMatches : (A : Type 0) → Answers → StoreView → List (List ℕ) → Option NoAnswer → Option (List ℕ) → Option (List ℕ) → Type 0
 HasAnsweredMatches A answers view lines why old new =
     HasAnsweredBy {X = Vec ObjectId A} (AreMatchesOfEach view (prefixes_of view.kind lines))
@@ -179,13 +180,13 @@ abbreviation_text line Missing = line_with line (codes "missing")
 abbreviation_text line Ambiguous = line_with line (codes "ambiguous")
 abbreviation_text line (Named named) = spelling hex_letter named.name.digits ++ 10 ∷ []
 
--- why there is none
+-- why there is no abbreviation
 abbrev pub no_name : Abbreviation → Option NoAnswer
 no_name Missing = Some no_answers.Missing
 no_name Ambiguous = Some no_answers.Ambiguous
 no_name (Named named) = None
 
--- the abbreviations for the prefixes among lines were found and printed, and why the first line that has none has none was returned
+-- the abbreviations for the prefixes among lines were found and printed, and `why` is why the first line that has no abbreviation has none
 abbrev pub HasNamedEach : ℕ → StoreView → List (List ℕ) → Option NoAnswer → Option (List ℕ) → Option (List ℕ) → Type 0
 HasNamedEach least view lines why old new =
     HasAnsweredBy (AreAbbreviatedOfEach least view (prefixes_of view.kind lines)) abbreviation_text no_name view.kind lines why old new
@@ -215,8 +216,8 @@ abbrev pub located_lines : {A : Type 0} → (ℕ → List ℕ) → Option (List 
 located_lines pack_path line located =
     flat_map (lines_at_after line pack_path (map string_bytes located.loose_paths.items) (id_digits located.id)) located.locations.items
 
--- of the ids that begin with each prefix among lines as many as are needed were located, and the lines of their locations printed, and why the first line that
--- has no answer has none was returned; A is the type of the allocator of what was found
+-- as many of the ids that begin with each prefix among lines as are needed were located, the lines of their locations were printed, and `why` is why the first
+-- line that has no answer has none; A is the type of the allocator of what was found
 abbrev pub HasLocatedEach : (A : Type 0) → Answers → (ℕ → List ℕ) → (List ℕ → List (List ℕ)) → StoreView → List (List ℕ) → Option NoAnswer → Option (List ℕ)
     → Option (List ℕ) → Type 0
 HasLocatedEach A answers pack_path loose_paths view lines why old new =

@@ -21,8 +21,9 @@ use streams::{Sink, WriteFailed, write_id};
 /// answer is, and how it is written.
 ///
 /// The lines are of the store's kind. For a line that is not a prefix, the line and ` bad` are
-/// written, for a prefix of no id the line and ` missing`, and for [`Answers::One`] and a prefix of
-/// several ids the line and ` ambiguous`.
+/// written. For a prefix of no id, [`Answers::All`] and [`Answers::One`] write the line and
+/// ` missing`, and for a prefix of several ids, [`Answers::One`] writes the line and ` ambiguous`.
+/// [`Answers::Bare`] and [`Answers::BareOne`] write nothing there.
 ///
 /// The ids of a pack index with a first byte are read once. If they were found in order before,
 /// only some of them are read, for each line. Nothing is written before all ids are found; if a

@@ -33,8 +33,9 @@ pub fn two_are_enough<X>()
         → no_answer answers (limited_to (limit_for answers) found) ≡ no_answer answers found }
 {}
 
-/// What [`find_each`](crate::find_each) writes by [`Answers::Bare`](crate::Answers::Bare) for one
-/// line that is a prefix: a line for each id of the store that begins with it, and nothing else.
+/// For one line that is a prefix, [`find_each`](crate::find_each) writes with
+/// [`Answers::Bare`](crate::Answers::Bare) a line for each id of the store that begins with it, and
+/// nothing else.
 pub fn bare_is_printed<A>()
     ensures { (view : StoreView) (line : List ℕ) (prefix : KindDigits) (why : Option NoAnswer)
         (old new : Option (List ℕ)) → prefix_of view.kind line ≡ Some prefix

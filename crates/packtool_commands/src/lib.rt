@@ -3,11 +3,11 @@
 //! For each line of a text ([`PrefixLines`]), [`find_each`] writes the ids of a store that begin
 //! with it, [`locate_each`] the locations of these ids, and [`name_each`] the abbreviation of the
 //! only one. [`names`] writes all ids after their abbreviations. If a pack index is gone meanwhile,
-//! they open the store again. [`write_names`] writes the lines of some ids. [`show`]
-//! writes the lines of a pack index as `git show-index` does. [`open_index`] opens one,
+//! these four open the store again. [`write_names`] writes the lines of some ids. [`show`] writes
+//! the lines of a pack index as `git show-index` does. [`open_index`] opens a pack index.
 //! [`write_ending`] writes whether a file ends with its digest, [`write_pairing`] whether a pack
 //! index belongs to the pack beside it, as [`pair`] finds, and [`write_named`] another line of a
-//! file. They escape names as `sha1sum` does.
+//! file. These three escape names as `sha1sum` does.
 #![tactic(auto)]
 
 mod ending;

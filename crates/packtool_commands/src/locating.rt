@@ -34,10 +34,11 @@ type End = ArrayVec<u8, 22>;
 /// it. Returns why the first line that has no answer has none, or `None` if each has one.
 ///
 /// For each location of an id a line is written: the id, a space, the path of the file that has it,
-/// and, of a pack, a space and the offset there. The ids are in order, each once; the locations of
-/// one in the order of [`Parts::locate`](object_store::Parts::locate); and a loose object has a
-/// line for each file. Paths are escaped as by [`write_named`](crate::write_named), so none looks
-/// like a further line; the backslash of an escaped path is the first byte, before all else.
+/// and, for a pack, a space and the offset in the pack, in bytes. The ids are in order, each once,
+/// and the locations of each id are in the order of [`Parts::locate`](object_store::Parts::locate).
+/// A loose object has a line for each file. Paths are escaped as by
+/// [`write_named`](crate::write_named), so none looks like a further line; the backslash of an
+/// escaped path is the first byte, before all else.
 /// [`find_each`](crate::find_each) says what is written for a line that has no answer.
 ///
 /// The ids of a pack index with a first byte are read once. If they were found in order before,

@@ -128,8 +128,8 @@ pub fn write_names<W: Sink>(named: &[NamedId], out: &mut W) -> Result<(), WriteF
 
 /// Writes for each of some lines, in order, the abbreviation of the only id of a store that begins
 /// with it, of at least `least` digits, from 4 up to all of the kind; and a line feed. Returns why
-/// the first line that is no prefix of exactly one id is none, or `None` if each is one. `git
-/// rev-parse --short` prints the same.
+/// the first line that is not a prefix of exactly one id is not, or `None` if each line is one.
+/// `git rev-parse --short` prints the same abbreviation.
 ///
 /// The lines are of the store's kind. For a line that is not a prefix, the line and ` bad` are
 /// written, for a prefix of no id the line and ` missing`, and for a prefix of several ids the line

@@ -102,7 +102,8 @@ fn line_feed_in(text: &[u8]) -> Option<usize>
     text.iter().position(|byte| *byte == b'\n')
 }
 
-/// The prefix of a kind that a line is, as [`PrefixLines`] says, or `None` if it is not one.
+/// The prefix of a kind that a line is, or `None` if the line is not one. [`PrefixLines`] says
+/// which lines are prefixes.
 ///
 /// ```
 /// if prefix_in(Kind::Sha1, b"4b8").is_some() {

@@ -12,9 +12,9 @@ use std::alloc::Allocator;
 use streams::{Sink, WriteFailed, write_all};
 use thiserror::Error as ThisError;
 
-/// What [`find_each`](crate::find_each) and [`locate_each`](crate::locate_each) print for a prefix.
-/// The first two say of a line that has no answer why it has none, and the others print nothing for
-/// a prefix that has none.
+/// What [`find_each`](crate::find_each) and [`locate_each`](crate::locate_each) write for a prefix.
+/// If no id begins with it, or several do and one is asked for, `All` and `One` write the line and
+/// which of the two it is, and `Bare` and `BareOne` write nothing.
 ///
 /// ```
 /// let lines = PrefixLines::read(rt.alloc(), Kind::Sha1, b"4b8\n4b9\n")?;
@@ -26,13 +26,13 @@ pub enum Answers {
     All,
     /// The one id that begins with it.
     One,
-    /// Each id that begins with it.
+    /// Each id that begins with it, without the line.
     Bare,
-    /// The one id that begins with it.
+    /// The one id that begins with it, written as `One` writes it.
     BareOne,
 }
 
-/// Why a line has no answer.
+/// The reason why a line has no answer.
 ///
 /// ```
 /// let why = find_each(rt.alloc(), &mut store, &lines, Answers::One, 65_536, &mut out)?;
@@ -42,13 +42,13 @@ pub enum Answers {
 /// ```
 #[derive(Clone, Copy, PartialEq, Eq, Debug, ThisError)]
 pub enum NoAnswer {
-    /// No id begins with it.
+    /// No id begins with the line.
     #[error("missing")]
     Missing,
-    /// Several ids begin with it, and one is asked for.
+    /// Several ids begin with the line, and one is asked for.
     #[error("ambiguous")]
     Ambiguous,
-    /// It is not a prefix.
+    /// The line is not a prefix.
     #[error("bad")]
     Bad,
 }
@@ -58,7 +58,7 @@ pub(crate) trait AnswerForm<T> {
     /// What is printed for a line that is a prefix.
     ghost text: { Self → List ℕ → T → List ℕ };
 
-    /// Why what was found is no answer, if it is none.
+    /// Why what was found is not an answer, or `None` if it is one.
     ghost no_answer: { Self → T → Option NoAnswer };
 
     /// Writes what is printed for a line that is a prefix.
@@ -67,13 +67,13 @@ pub(crate) trait AnswerForm<T> {
         ensures { Wrote W.taken W.has_failed out.old out.new result
             (text self.now line.now found.now) };
 
-    /// Why what was found is no answer, if it is none.
+    /// Returns why what was found is not an answer, or `None` if it is one.
     fn no_answer(&self, found: &T) -> Option<NoAnswer>
         ensures { result ≡ no_answer self.now found.now };
 }
 
 /// Writes what is printed for each of some lines, by what was found for each prefix among them.
-/// Returns why the first that has no answer has none.
+/// Returns why the first line that has no answer has none, or `None` if each has one.
 pub(crate) fn write_answers<T, A: Allocator, F: AnswerForm<T>, W: Sink>(
     lines: &PrefixLines<'_, A>,
     found: &[T],
@@ -131,7 +131,7 @@ fn write_answer<T, F: AnswerForm<T>, W: Sink>(
     }
 }
 
-// Why what was found for a line is no answer, if it is none.
+// Why a line has no answer, by what was found for it if it is a prefix, or `None` if it has one.
 fn no_answer_in<T, F: AnswerForm<T>>(answer: Option<&T>, form: &F) -> Option<NoAnswer>
     ensures { result ≡ option_map_or (F.no_answer form.now) (option_copied answer.entry)
         (Some NoAnswer.Bad) }

@@ -18,7 +18,8 @@ use std::alloc::Allocator;
 const MAX_TRIES: usize = 10;
 
 /// The result of a look-up in a store, which the look-up leaves as it is. If a pack index that was
-/// listed is gone, the store is opened again and the look-up begins again, 10 times at most.
+/// listed is gone, the store is opened again and the look-up begins again. It begins at most 10
+/// times.
 pub(crate) fn look_up_again<S: Reopen, T: Drop, F: Fn(&mut S) -> Result<T, Error>>(
     store: &mut S,
     look_up: F,

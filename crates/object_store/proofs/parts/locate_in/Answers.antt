@@ -12,7 +12,7 @@ use Rattle.object_store.proofs.Zipped.{zipped_at}
 use Rattle.object_store.proofs.parts.locate_in.Goals as goal
 use Rattle.object_store.proofs.parts.locate_in.Goals.{else-contains, in-Some+in-Ok+in_ok-push-in-Ok, in_default, then-contains+in_ok-push}
 
--- the pack index at a position is right of the ids with the first byte, as they were read
+-- the pack index at a position has the names that are counted with the first byte, as they were read
 right_at : (view : StoreView) (digits : List ℕ) (parts : List BucketNames) → AreParts view digits parts → (at : ℕ) (pack : LazyIndex) → IsPackAt view.kind view.packs at pack
     → IfKnown (λ bytes. HasBucket pack.kind bytes (first_byte_of digits)) pack
 right_at view digits parts are at pack here =
@@ -20,7 +20,7 @@ right_at view digits parts are at pack here =
     let part = zipped_at (IsPart digits) view.packs parts are.each at pack any here.low in
     subst (λ (p : LazyIndex). IfKnown (λ bytes. HasBucket p.kind bytes (first_byte_of digits)) p) (sym here.is) (λ bytes known. (part.known bytes known).right)
 
--- there is a part of it
+-- there is a part of each pack index
 as_many : (view : StoreView) (digits : List ℕ) (parts : List BucketNames) → AreParts view digits parts → length parts ≡ length view.packs
 as_many view digits parts are = AllZip-long (IsPart digits) view.packs parts are.each
 
