@@ -6,7 +6,7 @@ use Rattle.gix_hash.specs.declared.ObjectId.{ObjectId}
 
 -- the text is an id of the kind
 abbrev pub IsPrinted : Kind → List ℕ → ObjectId → Type 0
-IsPrinted kind text id = (id_kind id ≡ kind) × (text ≡ spelling hex_letter (id_digits id))
+IsPrinted kind text id = (id_kind id ≡ kind) × (text ≡ spelling hex_letter (id_digits id)) × AreIdDigits kind (id_digits id)
 
 -- the text is no id of the kind
 abbrev pub IsNotPrinted : Kind → List ℕ → Type 0

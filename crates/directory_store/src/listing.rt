@@ -1,8 +1,9 @@
 //! The names in directories, and the states of directories.
 
-ghost use Rattle.std.specs.Prelude.{◌≡◌, ◌⊎◌, ◌↔◌, All, IfErr, IfOk, IsTrue, Some, length, vec_len};
+ghost use Rattle.std.specs.Prelude.{◌≡◌, ◌⊎◌, ◌↔◌, All, IfErr, IfOk, IsNone, IsTrue, Some, [], length, vec_len};
 ghost use Rattle.repositories.specs.Answers.{IfKnown};
 ghost use Rattle.repositories.specs.States.{IsSettled};
+ghost use Rattle.directory_store.specs.Loose.{listed_in};
 ghost use Rattle.directory_store.specs.Packs.{names_in};
 ghost use Rattle.directory_store.specs.Stores.{IsChanged, IsUnread};
 
@@ -36,9 +37,14 @@ pub(crate) fn state_if_there<R: Directories>(
     rt: &R,
     directory: &str,
 ) -> Result<Option<FileState>, Error>
-    ensures { IfErr result IsUnread }
+    ensures err { IfErr result IsUnread }
+    ensures missing { IfOk result (λ state. IsNone state → IfKnown (λ at.
+        listed_in directory.now at ≡ []) (R.answers rt.now)) }
 {
-    FileState::if_there(rt, directory).map_err(|error| Error::file(rt.alloc(), directory, error))
+    match FileState::if_there(rt, directory) {
+        Ok(state) => Ok(state),
+        Err(error) => Err(Error::file(rt.alloc(), directory, error)),
+    }
 }
 
 // The states of directories.

@@ -3,7 +3,9 @@
 ghost use Rattle.std.specs.Prelude.{◌≡◌, ◌≢◌, ◌<◌, ◌*◌, ◌++◌, ◌∷◌, ◌==◌, All, IfOk, IfSome, IsNone, MatchOption, None, OnOk, false, length, map, string_bytes, vec_len};
 ghost use Rattle.std.specs.List.{slice_split};
 ghost use Rattle.gix_hash.specs.Words.{hex_letter, id_digits, id_kind};
+ghost use Rattle.repositories.specs.Answers.{Answers, IfKnown};
 ghost use Rattle.repositories.specs.Stores.{hex_of};
+ghost use Rattle.directory_store.specs.Loose.{AreLoose, AreLooseIn, AreNamesIn, HasAllLoose, HasNamesAt, ListsIfThere, bytes_asked, fan_out_in, listed_in};
 ghost use Rattle.directory_store.specs.Stores.{AppendsLooseIds, AreAllOf, AreSettled, IsLooseId, fan_outs_of, only_of, path_in, paths_in};
 
 use crate::error::Error;
@@ -91,27 +93,60 @@ pub(crate) fn take_loose(
     Some(listed.remove(at))
 }
 
-// The fan-out directory of a first byte, in the object directory at a position, and its names.
+// The fan-out directories of a first byte, and the names in that of each object directory, each
+// ended by a NUL.
 #[derive(Drop)]
 struct Part {
-    at: usize,
     byte: u8,
+    names: Vec<Vec<u8>>,
+}
+
+// A fan-out directory.
+#[derive(Drop)]
+struct FanOut {
     path: String,
     // Its state before it is listed, if it must not have changed then.
     state: Option<FileState>,
-    names: Vec<u8>,
+    // Whether it is missing, if that is known.
+    is_missing: bool,
 }
 
-impl Part {
-    // Lists the names. Fails if the directory has changed.
-    fn list<R: Directories>(&mut self, rt: &R) -> Result<(), Error>
-        ensures { (self.new.at ≡ self.old.at) × (self.new.byte ≡ self.old.byte) }
+impl FanOut {
+    // One at a path, with its state if it must not change.
+    fn at<R: Directories>(rt: &R, path: String, must_stay: bool) -> Result<FanOut, Error>
+        ensures path { IfOk result (λ fan_out. fan_out.path ≡ path) }
+        ensures missing { IfOk result (λ fan_out. IfKnown (λ at. ListsIfThere at fan_out)
+            (R.answers rt.now)) }
     {
-        self.names = list_names(rt, &self.path)?;
-        match &self.state {
-            Some(state) => expect_state(rt, &self.path, state),
-            None => Ok(()),
+        if !must_stay {
+            return Ok(FanOut {
+                path,
+                state: None,
+                is_missing: false,
+            });
         }
+        let state = state_if_there(rt, &path)?;
+        Ok(FanOut {
+            is_missing: state.is_none(),
+            path,
+            state,
+        })
+    }
+
+    // Lists the names. Fails if it has changed.
+    fn list<R: Directories>(&self, rt: &R) -> Result<Vec<u8>, Error>
+        requires { IfKnown (λ at. ListsIfThere at self.now) (R.answers rt.now) }
+        ensures { IfOk result (λ names. IfKnown (λ at.
+            names.items ≡ listed_in (string_bytes self.now.path) at) (R.answers rt.now)) }
+    {
+        if self.is_missing {
+            return Ok(Vec::new(rt.alloc()));
+        }
+        let names = list_names(rt, &self.path)?;
+        if let Some(state) = &self.state {
+            expect_state(rt, &self.path, state)?;
+        }
+        Ok(names)
     }
 }
 
@@ -128,6 +163,8 @@ pub(crate) fn list_loose<R: Directories>(
     ensures which { IfOk result (λ loose. loose.which ≡ which) }
     ensures settled { IfOk result (λ loose. IfSome loose.states (λ states.
         AreSettled now states.items)) }
+    ensures loose { IfOk result (λ loose. IfKnown (λ at. AreLoose at kind which
+        (map string_bytes paths.now) loose.directories.items) (R.answers rt.now)) }
 {
     let places = Places { rt, paths };
     let states = places.settled_states(which, now)?;
@@ -204,11 +241,13 @@ impl<R: Directories> Places<'_, R> {
             All (λ directory. directory.table.kind ≡ kind) directories.items) }
         ensures paths { IfOk result (λ directories. map (λ directory. string_bytes directory.path)
             directories.items ≡ map string_bytes self.now.paths.now) }
+        ensures loose { IfOk result (λ directories. IfKnown (λ at. All (HasAllLoose at kind which)
+            directories.items) (R.answers self.now.rt.now)) }
     {
         let parts = self.list_parts(which)?;
         let mut directories = Vec::new(self.rt.alloc());
-        for path in self.paths {
-            directories.push(directory_of(self.rt, path, kind, directories.len(), &parts)?)?;
+        for (index, path) in self.paths.iter().enumerate() {
+            directories.push(directory_of(self.rt, path, kind, index, &parts)?)?;
         }
         Ok(directories)
     }
@@ -216,7 +255,14 @@ impl<R: Directories> Places<'_, R> {
     // Lists the fan-out directories, one first byte after the other. If there are several object
     // directories, in none a fan-out directory may come or go meanwhile. Fails if one does, or if
     // one changes each time that it is listed.
-    fn list_parts(&self, which: LooseIds) -> Result<Vec<Part>, Error> {
+    fn list_parts(&self, which: LooseIds) -> Result<Vec<Part>, Error>
+        ensures as_many { IfOk result (λ parts. All (λ part. vec_len part.names
+            ≡ length self.now.paths.now) parts.items) }
+        ensures bytes { IfOk result (λ parts. map (λ part. part.byte) parts.items
+            ≡ bytes_asked which) }
+        ensures names { IfOk result (λ parts. IfKnown (λ at. All (λ part. AreNamesIn at part.byte
+            self.now.paths.now part.names.items) parts.items) (R.answers self.now.rt.now)) }
+    {
         let (first, last) = bytes_of(which);
         let several = if self.paths.len() > 1 {
             self.paths
@@ -226,58 +272,59 @@ impl<R: Directories> Places<'_, R> {
         let before = states_of(self.rt, several)?;
         let mut parts = Vec::new(self.rt.alloc());
         for byte in first..=last {
-            parts.append(&mut self.parts_with(byte)?)?;
+            let names = self.names_with(byte)?;
+            parts.push(Part { byte, names })?;
         }
         expect_states(self.rt, several, &before)?;
         Ok(parts)
     }
 
-    // Lists the fan-out directory of a first byte, in each object directory. The names of several
-    // were there at one time: else an object that is moved from one into another might be in
-    // neither. Fails if one of them changes each time.
-    fn parts_with(&self, byte: u8) -> Result<Vec<Part>, Error> {
+    // Lists the names in the fan-out directory of a first byte, for each object directory. Those
+    // of several were there at one time: else an object that is moved from one into another might
+    // be in neither. Fails if one of them changes each time.
+    fn names_with(&self, byte: u8) -> Result<Vec<Vec<u8>>, Error>
+        ensures as_many { IfOk result (λ names. vec_len names ≡ length self.now.paths.now) }
+        ensures names { IfOk result (λ names. IfKnown (λ at. AreNamesIn at byte self.now.paths.now
+            names.items) (R.answers self.now.rt.now)) }
+    {
         for _ in 1..MAX_TRIES {
-            let listed = self.parts_if_unchanged(byte);
+            let listed = self.names_if_unchanged(byte);
             if !matches!(&listed, Err(error) if error.is_change()) {
                 return listed;
             }
         }
-        self.parts_if_unchanged(byte)
+        self.names_if_unchanged(byte)
     }
 
-    // Lists the fan-out directories of a first byte that are there. Fails if there are several
-    // object directories, and one of them has changed since all were there.
-    fn parts_if_unchanged(&self, byte: u8) -> Result<Vec<Part>, Error> {
-        let mut parts = self.parts_there(byte)?;
-        for part in &mut parts {
-            part.list(self.rt)?;
+    // Lists these names. Fails if there are several object directories, and a fan-out directory in
+    // one of them has changed since all were there.
+    fn names_if_unchanged(&self, byte: u8) -> Result<Vec<Vec<u8>>, Error>
+        ensures as_many { IfOk result (λ names. vec_len names ≡ length self.now.paths.now) }
+        ensures names { IfOk result (λ names. IfKnown (λ at. AreNamesIn at byte self.now.paths.now
+            names.items) (R.answers self.now.rt.now)) }
+    {
+        let fan_outs = self.fan_outs(byte)?;
+        let mut names = Vec::new(self.rt.alloc());
+        for fan_out in &fan_outs {
+            names.push(fan_out.list(self.rt)?)?;
         }
-        Ok(parts)
+        Ok(names)
     }
 
-    // The fan-out directories of a first byte that are there, with their states; in a single object
-    // directory, without.
-    fn parts_there(&self, byte: u8) -> Result<Vec<Part>, Error> {
-        let mut parts = Vec::new(self.rt.alloc());
-        for (at, path) in self.paths.iter().enumerate() {
+    // The fan-out directories of a first byte, with their states if there are several object
+    // directories.
+    fn fan_outs(&self, byte: u8) -> Result<Vec<FanOut>, Error>
+        ensures paths { IfOk result (λ fan_outs. map (λ fan_out. string_bytes fan_out.path)
+            fan_outs.items ≡ map (fan_out_in byte) self.now.paths.now) }
+        ensures missing { IfOk result (λ fan_outs. IfKnown (λ at. All (ListsIfThere at)
+            fan_outs.items) (R.answers self.now.rt.now)) }
+    {
+        let mut fan_outs = Vec::new(self.rt.alloc());
+        for path in self.paths {
             let path = fan_out(self.rt, path, byte)?;
-            let mut state = None;
-            if self.paths.len() > 1 {
-                state = state_if_there(self.rt, &path)?;
-                if state.is_none() {
-                    continue;
-                }
-            }
-            let names = Vec::new(self.rt.alloc());
-            parts.push(Part {
-                at,
-                byte,
-                path,
-                state,
-                names,
-            })?;
+            fan_outs.push(FanOut::at(self.rt, path, self.paths.len() > 1)?)?;
         }
-        Ok(parts)
+        Ok(fan_outs)
     }
 }
 
@@ -305,17 +352,19 @@ fn directory_of(
     rt: &impl AllocGlobal,
     path: &str,
     kind: Kind,
-    at: usize,
+    index: usize,
     parts: &[Part],
 ) -> Result<LooseDirectory, Error>
+    requires { All (λ part. index < vec_len part.names) parts.now }
     ensures path { IfOk result (λ directory. string_bytes directory.path ≡ path.now) }
     ensures kind { IfOk result (λ directory. directory.table.kind ≡ kind) }
+    ensures loose { IfOk result (λ directory. (at : Answers) → All (HasNamesAt at index path.now)
+        parts.now → AreLooseIn at kind (map (λ part. part.byte) parts.now) path.now
+        directory.table.ids) }
 {
     let mut ids = Vec::new(rt.alloc());
     for part in parts {
-        if part.at == at {
-            push_ids(kind, part.byte, &part.names, &mut ids)?;
-        }
+        push_ids(kind, part.byte, &part.names[index], &mut ids)?;
     }
     let path = String::from_str(rt.alloc(), path)?;
     let table = LooseTable::new(ids, kind);

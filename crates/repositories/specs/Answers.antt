@@ -8,7 +8,7 @@ use Rattle.repositories.specs.declared.directories.Found.{Found}
 use Rattle.repositories.specs.declared.error.Error.{Error}
 use Rattle.repositories.specs.declared.error.Error.TheVariants.{Cause, Memory}
 
--- what each call answers for each path, or the kind of its error; `entry` is what is at a path, also if it is a link
+-- what each call answers for each path, or the kind of its error; `entry` is what is at a path, also if it is a link. Nothing is listed at a path where a look fails
 pub record Answers : Type 0 where
   pub look : List ℕ → Result Found ErrorKind
   pub entry : List ℕ → Result Found ErrorKind
@@ -17,6 +17,7 @@ pub record Answers : Type 0 where
   pub text : List ℕ → Result (List ℕ) ErrorKind
   pub link : List ℕ → Result (List ℕ) ErrorKind
   pub real : List ℕ → Result (List ℕ) ErrorKind
+  pub missing : (path listed : List ℕ) (kind : ErrorKind) → look path ≡ Err kind → names path ≢ Ok listed
 
 -- a statement holds of the answers, if they are known
 abbrev pub IfKnown : (Answers → Type 0) → Option Answers → Type 0
