@@ -5,6 +5,7 @@ use Rattle.std.specs.List.{AllZip, ends_with, filter, slice_split}
 use Rattle.std.specs.List.Sorted.{IsPermutation, IsSorted}
 use Rattle.std.specs.Ordering.{nat_cmp}
 use Rattle.std.specs.Path.{path_join}
+use Rattle.std.specs.Result.{result_ok}
 use Rattle.std.specs.Str.{is_utf8}
 use Rattle.std.specs.declared.io.ErrorKind.{ErrorKind}
 use Rattle.std.specs.declared.io.ErrorKind.TheVariants.{NotFound}
@@ -12,6 +13,10 @@ use Rattle.repositories.specs.Answers.{Answers}
 use Rattle.repositories.specs.declared.directories.Found.{Found}
 use Rattle.directory_store.specs.Stores.{HasPack, index_path, pack_path_of}
 use Rattle.directory_store.specs.declared.packs.PackPaths.{PackPaths}
+
+-- the directory of packs of an object directory
+abbrev pub packs_of : List ℕ → List ℕ
+packs_of directory = path_join directory (codes "pack")
 
 -- the names in a directory, as they were answered: none if it is missing
 abbrev pub if_listed : Result (List ℕ) ErrorKind → Option (List ℕ)
@@ -69,3 +74,7 @@ pub record ArePacks (at : Answers) (directories : List (List ℕ)) (packs : List
   pub listed : AreIndexes at directories (map index_path indexes)
   pub own : All HasPack indexes
   pub all : packs ≡ filter (has_pack at) indexes
+
+-- the bytes of a file, as a read of it answered; or none, if it failed
+abbrev pub bytes_at : Answers → List ℕ → Option (List ℕ)
+bytes_at at path = result_ok (at.bytes path)

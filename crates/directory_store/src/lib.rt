@@ -18,5 +18,5 @@ mod store;
 
 pub use error::Error;
 pub use loose::LooseIds;
-pub use source::Source;
+pub use source::{Source, StoreFiles};
 pub use store::DirectoryStore;

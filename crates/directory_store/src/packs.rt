@@ -1,23 +1,21 @@
 //! The pack indexes in object directories.
 
-ghost use Rattle.std.specs.Prelude.{◌≡◌, ◌⊎◌, ◌↔◌, ◌+◌, ◌++◌, ℕ, All, IfOk, IsNone, IsSomeAnd, IsTrue, List, OnOk, codes, flat_map, length, map, string_bytes, true, vec_len};
+ghost use Rattle.std.specs.Prelude.{◌≡◌, ◌⊎◌, ◌↔◌, ◌+◌, ◌++◌, ℕ, All, IfOk, IsNone, IsSomeAnd, IsTrue, List, OnOk, [], flat_map, length, map, string_bytes, true, vec_len};
 ghost use Rattle.std.specs.List.{filter};
 ghost use Rattle.std.specs.Path.{path_join};
 ghost use Rattle.pack_index.specs.declared.lazy_error.LazyError.TheVariants as errors;
 ghost use Rattle.repositories.specs.Answers.{IfKnown};
 ghost use Rattle.repositories.specs.States.{IsSettled};
-ghost use Rattle.directory_store.specs.Packs.{AreIndexNames, AreIndexes, AreIndexesIn, ArePacks, has_pack, index_in, split_names};
+ghost use Rattle.directory_store.specs.Packs.{AreIndexNames, AreIndexes, AreIndexesIn, ArePacks, bytes_at, has_pack, index_in, packs_of, split_names};
 ghost use Rattle.directory_store.specs.Stores.{HasPack, IsListed, IsOfIndex, IsUnread, index_path, pack_path_of};
 
 use crate::error::Error;
 use crate::listing::{are_settled, expect_states, list_names, states_of};
-use crate::source::Source;
+use crate::source::StoreFiles;
 use gix_hash::Kind;
 use pack_index::{LazyError, LazyFile};
 use repositories::{Directories, FileState, join};
 use std::alloc::{AllocError, Global};
-use std::fs::File;
-use std::rt::Files;
 use std::time::SystemTime;
 use std::{io, mem, str};
 
@@ -42,7 +40,7 @@ impl PackDirectories {
     // Those in object directories, as they are now. One may be missing.
     pub(crate) fn of<R: Directories>(rt: &R, objects: &[String]) -> Result<PackDirectories, Error>
         ensures { IfOk result (λ packs. map string_bytes packs.paths.items
-            ≡ map (λ path. path_join (string_bytes path) (codes "pack")) objects.now) }
+            ≡ map (λ path. packs_of (string_bytes path)) objects.now) }
     {
         let mut paths = Vec::new(rt.alloc());
         for directory in objects {
@@ -284,10 +282,10 @@ fn has_pack<R: Directories>(rt: &R, paths: &PackPaths) -> Result<bool, Error>
 
 // The pack indexes that were opened.
 #[derive(Drop)]
-pub(crate) struct OpenIndexes<R: Files<File = File>> {
+pub(crate) struct OpenIndexes<R: StoreFiles> {
     // Their paths, in order.
     pub(crate) paths: Vec<PackPaths>,
-    pub(crate) indexes: Vec<LazyFile<Source<R>>>,
+    pub(crate) indexes: Vec<LazyFile<R::Source>>,
     // Why others are skipped: they are no pack indexes of version 2 and of the kind, or their
     // counts fall.
     pub(crate) skipped: Vec<Error>,
@@ -295,15 +293,20 @@ pub(crate) struct OpenIndexes<R: Files<File = File>> {
 }
 
 // Opens pack indexes whose names are of a kind. If too many files are open, none stays open.
-pub(crate) fn open_indexes<R: Files<File = File> + AllocGlobal + Clone + Drop>(
+pub(crate) fn open_indexes<R: StoreFiles>(
     rt: &R,
     paths: &[PackPaths],
     kind: Kind,
 ) -> Result<OpenIndexes<R>, Error>
     ensures kinds { IfOk result (λ opened. All (λ index. index.kind ≡ kind)
         opened.indexes.items) }
+    ensures contents { IfOk result (λ opened. IfKnown (λ at.
+        map (λ index. index.content) opened.indexes.items
+        ≡ map (bytes_at at) (map index_path opened.paths.items)) (R.answers rt.now)) }
     ensures all { IfOk result (λ opened. vec_len opened.indexes + vec_len opened.skipped
         ≡ length paths.now) }
+    ensures paths { IfOk result (λ opened. opened.skipped.items ≡ []
+        → map index_path opened.paths.items ≡ map index_path paths.now) }
 {
     match open_all(rt, paths, MAX_OPEN, kind) {
         Ok(opened) => Ok(opened),
@@ -314,7 +317,7 @@ pub(crate) fn open_indexes<R: Files<File = File> + AllocGlobal + Clone + Drop>(
 
 // Opens pack indexes, of which the first ones stay open. One is skipped if it is none of version 2
 // and of the kind, or its fan-out entries fall.
-fn open_all<R: Files<File = File> + AllocGlobal + Clone + Drop>(
+fn open_all<R: StoreFiles>(
     rt: &R,
     listed: &[PackPaths],
     most_open: usize,
@@ -322,8 +325,13 @@ fn open_all<R: Files<File = File> + AllocGlobal + Clone + Drop>(
 ) -> Result<OpenIndexes<R>, Error>
     ensures kinds { IfOk result (λ opened. All (λ index. index.kind ≡ kind)
         opened.indexes.items) }
+    ensures contents { IfOk result (λ opened. IfKnown (λ at.
+        map (λ index. index.content) opened.indexes.items
+        ≡ map (bytes_at at) (map index_path opened.paths.items)) (R.answers rt.now)) }
     ensures all { IfOk result (λ opened. vec_len opened.indexes + vec_len opened.skipped
         ≡ length listed.now) }
+    ensures paths { IfOk result (λ opened. opened.skipped.items ≡ []
+        → map index_path opened.paths.items ≡ map index_path listed.now) }
 {
     let mut paths = Vec::with_capacity(rt.alloc(), listed.len())?;
     let mut indexes = Vec::with_capacity(rt.alloc(), listed.len())?;
@@ -347,17 +355,19 @@ fn open_all<R: Files<File = File> + AllocGlobal + Clone + Drop>(
 }
 
 // Opens a pack index, to stay open or to be opened again for each read of what is not kept.
-fn open_index<R: Files<File = File> + AllocGlobal + Clone + Drop>(
+fn open_index<R: StoreFiles>(
     rt: &R,
     path: &str,
     stays_open: bool,
     most_kept: u64,
     kind: Kind,
-) -> Result<LazyFile<Source<R>>, Error>
+) -> Result<LazyFile<R::Source>, Error>
     ensures kind { IfOk result (λ index. index.kind ≡ kind) }
     ensures path { IfOk result (λ index. index.path ≡ path.now) }
+    ensures content { IfOk result (λ index. IfKnown (λ at. index.content ≡ bytes_at at path.now)
+        (R.answers rt.now)) }
 {
-    let source = Source::open(rt, path, stays_open, most_kept);
+    let source = rt.open_source(path, stays_open, most_kept);
     let source = source.map_err(|error| not_opened(rt, path, error))?;
     match LazyFile::open(source, kind) {
         Ok(index) => Ok(index),

@@ -1,9 +1,11 @@
 //! What a pack index is read from.
 
 ghost use Rattle.std.specs.Prelude.{◌≡◌, ◌↔◌, ◌+◌, ◌-◌, ◌≤◌, IfOk, IsSome, None, false, length, string_bytes, true, vec_len};
+ghost use Rattle.repositories.specs.Answers.{IfKnown};
+ghost use Rattle.directory_store.specs.Packs.{bytes_at};
 ghost use Rattle.streams.specs.Streams.{IsReadAt};
 
-use repositories::retried;
+use repositories::{Directories, retried};
 use std::alloc::{AllocError, Global};
 use std::cell::Cell;
 use std::fs::File;
@@ -16,6 +18,33 @@ const OPEN_LEN: usize = 4096;
 
 // How many bytes are read at once of a file that is opened again for it.
 const CLOSED_LEN: usize = 16384;
+
+/// Directories, and files in them that are read at positions.
+///
+/// ```
+/// let source = rt.open_source("pack-1.idx", true, 1 << 20)?;
+/// let index = pack_index::LazyFile::open(source, Kind::Sha1)?;
+/// ```
+pub trait StoreFiles: Directories {
+    /// What the bytes of a file are read from.
+    type Source: ReadAt + Drop;
+
+    /// Opens a file, to stay open or to be opened again for each read of what is not kept. It may
+    /// be kept whole if it has at most `most_kept` bytes.
+    fn open_source(&self, path: &str, stays_open: bool, most_kept: u64) -> io::Result<Self::Source>
+        ensures path { IfOk result (λ source. Self.Source.path source ≡ path.now) }
+        ensures content { IfOk result (λ source. IfKnown (λ at. Self.Source.content source
+            ≡ bytes_at at path.now) (Self.answers self.now)) };
+}
+
+/// What a file of the host contains is not known.
+impl<R: Files<File = File> + AllocGlobal + Clone + Drop> StoreFiles for R {
+    type Source = Source<R>;
+
+    fn open_source(&self, path: &str, stays_open: bool, most_kept: u64) -> io::Result<Source<R>> {
+        Source::open(self, path, stays_open, most_kept)
+    }
+}
 
 /// A file of a store, with its length as it was opened. A short read takes the bytes after those
 /// asked for too, and keeps them: up to 4096 of a file that stays open, or else 16384. Of a file

@@ -9,15 +9,13 @@ ghost use Rattle.directory_store.specs.Stores.{AreSettled, IsChanged, index_path
 use crate::error::Error;
 use crate::loose::{LooseIds, LooseObjects, check_loose_file, list_loose, push_path, take_loose};
 use crate::packs::{PackDirectories, PackIndexes, PackPaths, open_indexes};
-use crate::source::Source;
+use crate::source::StoreFiles;
 use gix_hash::{Kind, ObjectId, Prefix};
 use object_store::{LooseTable, Reopen, Store, StorePaths};
 use pack_index::{Bucket, LazyError, LazyFile};
 use repositories::{Directories, ObjectDirectories, ObjectDirectory, with_alternates};
 use std::alloc::{AllocError, Allocator, Global};
-use std::fs::File;
 use std::mem;
-use std::rt::Files;
 use std::time::SystemTime;
 
 // How often a store that changes while it is read is read.
@@ -31,7 +29,7 @@ const MAX_TRIES: usize = 100;
 /// println!(rt; "{} pack indexes", store.indexes().len())?;
 /// ```
 #[derive(Drop)]
-pub struct DirectoryStore<R: Files<File = File>> {
+pub struct DirectoryStore<R: StoreFiles> {
     rt: R,
     // From what it was opened, and what was found then.
     directory: ObjectDirectory,
@@ -46,7 +44,7 @@ pub struct DirectoryStore<R: Files<File = File>> {
     failed: Option<Error>,
     // The paths of each pack, and its pack index.
     packs: Vec<PackPaths>,
-    indexes: Vec<LazyFile<Source<R>>>,
+    indexes: Vec<LazyFile<R::Source>>,
     loose: LooseObjects,
     // The loose objects that were asked for before, and may be again.
     loose_before: Vec<LooseObjects>,
@@ -56,7 +54,7 @@ pub struct DirectoryStore<R: Files<File = File>> {
     ghost before_of_kind: { All (λ loose. loose.kind ≡ directory.kind) loose_before.items },
 }
 
-impl<R: Files<File = File> + AllocGlobal + Clone + Drop> DirectoryStore<R> {
+impl<R: StoreFiles + Clone + Drop> DirectoryStore<R> {
     /// Opens the store of an object directory, whose ids are of the directory's kind.
     ///
     /// No object is missed that is packed, unpacked or moved into another directory meanwhile, as
@@ -400,9 +398,9 @@ fn all_skipped(
     Ok(all)
 }
 
-/// What files contain is not known.
-impl<R: Files<File = File> + AllocGlobal + Clone + Drop> Store for DirectoryStore<R> {
-    type Source = Source<R>;
+/// What the files contain is known as far as the runtime answers it.
+impl<R: StoreFiles + Clone + Drop> Store for DirectoryStore<R> {
+    type Source = R::Source;
 
     ghost use Rattle.directory_store.specs.Stores.{only_of};
 
@@ -418,7 +416,7 @@ impl<R: Files<File = File> + AllocGlobal + Clone + Drop> Store for DirectoryStor
         self.directory.kind
     }
 
-    fn indexes(&self) -> &[LazyFile<Source<R>>] {
+    fn indexes(&self) -> &[LazyFile<R::Source>] {
         &self.indexes
     }
 
@@ -445,7 +443,7 @@ impl<R: Files<File = File> + AllocGlobal + Clone + Drop> Store for DirectoryStor
     }
 }
 
-impl<R: Files<File = File> + AllocGlobal + Clone + Drop> Reopen for DirectoryStore<R> {
+impl<R: StoreFiles + Clone + Drop> Reopen for DirectoryStore<R> {
     ghost use Rattle.std.specs.Prelude.{◌≡◌};
     ghost use Rattle.directory_store.specs.Stores.{only_of};
 
@@ -458,7 +456,7 @@ impl<R: Files<File = File> + AllocGlobal + Clone + Drop> Reopen for DirectorySto
     }
 }
 
-impl<R: Files<File = File> + AllocGlobal + Clone + Drop> StorePaths for DirectoryStore<R> {
+impl<R: StoreFiles + Clone + Drop> StorePaths for DirectoryStore<R> {
     ghost use Rattle.directory_store.specs.Stores.{paths_in_all};
 
     ghost pack_path = { λ store pack. slice_index_or (map pack_path_of store.packs.items) pack [] };

@@ -33,7 +33,9 @@ use packtool_commands::{
 };
 use repositories::{ObjectDirectory, find_objects};
 use std::alloc::{AllocError, Global};
+use std::fs::File;
 use std::io;
+use std::rt::Files;
 use std::time::{SystemTime, UNIX_EPOCH};
 use streams::{Plain, Retrying, Sink};
 
@@ -141,7 +143,11 @@ struct Asked<'r> {
     ghost kept_of_kind: { ForSome kept (λ store. store.directory.kind ≡ directory.now.kind) },
 }
 
-impl Asked<'_> {
+// The bound always holds. It says what a file of the host is, of which the kept store is made.
+impl Asked<'_>
+where
+    HostRuntime: Files<File = File>,
+{
     // Prints all abbreviations.
     fn answer_all<'a>(&mut self) -> Result<u8, Failure<'a>> {
         let mut out = buffered(self.rt, self.rt.stdout())?;

@@ -1,30 +1,46 @@
-use Rattle.gix_hash.proofs.Std.{All, List, ◌≡◌, ◌++◌, ◌∷◌, [], ◌∙◌, ap, arith, map, subst, sym, vec_len, All-push, map-append}
+use Rattle.gix_hash.proofs.Std.{All, List, ◌≡◌, ◌++◌, ◌∷◌, [], ◌∙◌, ap, arith, length, map, subst, sym, vec_len, All-push, map-append}
+use Rattle.std.proofs.lemmas.List.{map_more}
 use Rattle.pack_index.specs.Lazy.{LazyIndex}
+use Rattle.directory_store.specs.Packs.{bytes_at}
 use Rattle.directory_store.specs.Stores.{index_path}
-use Rattle.directory_store.specs.declared.packs.PackPaths.{PackPaths}
 use Rattle.directory_store.proofs.packs.open_all.Goals.{in-Ok+in_ok-copy-in-Ok+in_ok-push-in-Ok+in_ok-push-in-Ok-2, in-Err+in_ok-push-in-Err}
 use Rattle.directory_store.proofs.packs.open_all.Goals as goal
 
--- one pack index more with its path
-one_more : (paths : List PackPaths) (indexes : List LazyIndex) (one : PackPaths) (index : LazyIndex) → index_path one ≡ index.path
-    → map index_path paths ≡ map (λ (i : LazyIndex). i.path) indexes → map index_path (paths ++ one ∷ []) ≡ map (λ (i : LazyIndex). i.path) (indexes ++ index ∷ [])
-one_more paths indexes one index is before =
-    map-append index_path paths (one ∷ []) ∙ (λ i. before i ++ is i ∷ []) ∙ sym (map-append (λ (i : LazyIndex). i.path) indexes (index ∷ []))
+-- one more in each list, of which the same is said
+one_more : {X Y : Type 0} (f : Y → X) (g : LazyIndex → X) (ys : List Y) (indexes : List LazyIndex) (y : Y) (index : LazyIndex) → f y ≡ g index → map f ys ≡ map g indexes
+    → map f (ys ++ y ∷ []) ≡ map g (indexes ++ index ∷ [])
+one_more f g ys indexes y index is before = map-append f ys (y ∷ []) ∙ (λ i. before i ++ is i ∷ []) ∙ sym (map-append g indexes (index ∷ []))
 
 pub loop-at-preserved : goal.loop-at-preserved
 loop-at-preserved g c =
     let IsOfKind = λ (index : LazyIndex). index.kind ≡ c.args.kind in
     elim c.match-open_index.branch [
-      | in-Ok+in_ok-copy-in-Ok+in_ok-push-in-Ok+in_ok-push-in-Ok-2 w ↦ record {
-        kinds = rw w.indexes-is (subst (All IsOfKind) (sym w.in_ok-push-in-Ok-2.ensures.items) (All-push IsOfKind c.loop-at.indexes.items w.in-Ok.index c.loop-at.invariant.kinds w.in-Ok.ensures.kind));
-        of_paths = rw (w.paths-is, w.indexes-is, w.in_ok-push-in-Ok.ensures.items, w.in_ok-push-in-Ok-2.ensures.items)
-            (one_more c.loop-at.paths.items c.loop-at.indexes.items w.in_ok-copy-in-Ok.field-0 w.in-Ok.index
-            (w.in_ok-copy-in-Ok.ensures.index ∙ sym c.deref.ensures ∙ sym w.in-Ok.ensures.path) c.loop-at.invariant.of_paths);
-        all = omega (arith, ap vec_len w.indexes-is, w.in_ok-push-in-Ok-2.ensures.len, ap vec_len w.skipped-is, c.loop-at.invariant.all);
-      }
+      | in-Ok+in_ok-copy-in-Ok+in_ok-push-in-Ok+in_ok-push-in-Ok-2 w ↦
+          let paths = c.loop-at.paths.items in
+          let indexes = c.loop-at.indexes.items in
+          let copy = w.in_ok-copy-in-Ok.field-0 in
+          let path = w.in_ok-copy-in-Ok.ensures.index ∙ sym c.deref.ensures in record {
+            kinds = rw w.indexes-is (subst (All IsOfKind) (sym w.in_ok-push-in-Ok-2.ensures.items) (All-push IsOfKind indexes w.in-Ok.index c.loop-at.invariant.kinds w.in-Ok.ensures.kind));
+            of_paths = rw (w.paths-is, w.indexes-is, w.in_ok-push-in-Ok.ensures.items, w.in_ok-push-in-Ok-2.ensures.items)
+                (one_more index_path (λ (index : LazyIndex). index.path) paths indexes copy w.in-Ok.index (path ∙ sym w.in-Ok.ensures.path) c.loop-at.invariant.of_paths);
+            contents = λ at known. rw (w.paths-is, w.indexes-is, w.in_ok-push-in-Ok.ensures.items, w.in_ok-push-in-Ok-2.ensures.items) (sym (
+                ap (map (bytes_at at)) (map-append index_path paths (copy ∷ []))
+                ∙ one_more (bytes_at at) (λ (index : LazyIndex). index.content) (map index_path paths) indexes (index_path copy) w.in-Ok.index
+                (ap (bytes_at at) path ∙ sym (w.in-Ok.ensures.content at known)) (sym (c.loop-at.invariant.contents at known))
+                ));
+            all = omega (arith, ap vec_len w.indexes-is, w.in_ok-push-in-Ok-2.ensures.len, ap vec_len w.skipped-is, c.loop-at.invariant.all);
+            paths = λ none. rw (w.paths-is, w.in_ok-push-in-Ok.ensures.items) (
+                let listed = c.args.listed.now in
+                let before = c.loop-at.invariant.paths (ap (λ v. v.items) (sym w.skipped-is) ∙ none) in
+                let is = w.in_ok-copy-in-Ok.ensures.index ∙ ap index_path c.index-listed-at.is in
+                map-append index_path paths (copy ∷ []) ∙ (λ i. before i ++ is i ∷ []) ∙ sym (map_more index_path listed c.loop-at.at c.index-listed-at.result (omega (arith, c.loop-at-test.true)))
+                );
+          }
       | in-Err+in_ok-push-in-Err w ↦ record {
         kinds = rw w.indexes-is c.loop-at.invariant.kinds;
         of_paths = rw (w.paths-is, w.indexes-is) c.loop-at.invariant.of_paths;
+        contents = λ at known. rw (w.paths-is, w.indexes-is) (c.loop-at.invariant.contents at known);
         all = omega (arith, ap vec_len w.indexes-is, ap vec_len w.skipped-is, w.in_ok-push-in-Err.ensures.len, c.loop-at.invariant.all);
+        paths = λ none. absurd (omega (arith, ap length none, ap vec_len w.skipped-is, w.in_ok-push-in-Err.ensures.len));
       }
     ]

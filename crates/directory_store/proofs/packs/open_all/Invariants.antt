@@ -1,5 +1,7 @@
-use Rattle.gix_hash.proofs.Std.{All, ◌≡◌, ◌+◌, map, vec_len}
+use Rattle.gix_hash.proofs.Std.{All, [], ◌≡◌, ◌+◌, map, take, vec_len}
 use Rattle.pack_index.specs.Lazy.{LazyIndex}
+use Rattle.repositories.specs.Answers.{IfKnown}
+use Rattle.directory_store.specs.Packs.{bytes_at}
 use Rattle.directory_store.specs.Stores.{index_path}
 use Rattle.directory_store.proofs.packs.open_all.Given as goal
 
@@ -7,5 +9,7 @@ abbrev pub invariant-loop-at : goal.invariant-loop-at
 invariant-loop-at g l = record {
   kinds : All (λ (index : LazyIndex). index.kind ≡ l.kind) l.indexes.items;
   of_paths : map index_path l.paths.items ≡ map (λ (index : LazyIndex). index.path) l.indexes.items;
+  contents : IfKnown (λ at. map (λ (index : LazyIndex). index.content) l.indexes.items ≡ map (bytes_at at) (map index_path l.paths.items)) (g.R.Directories.answers l.rt);
   all : vec_len l.indexes + vec_len l.skipped ≡ l.at;
+  paths : l.skipped.items ≡ [] → map index_path l.paths.items ≡ map index_path (take l.at l.listed);
 }
