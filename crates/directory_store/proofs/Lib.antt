@@ -5,3 +5,6 @@ mod DirectoryTables
 mod LooseNames
 mod LoosePaths
 mod Members
+mod Packed
+mod Held
+mod LooseMembers

@@ -3,6 +3,8 @@
 ghost use Rattle.std.specs.Prelude.{◌≡◌, ◌<◌, ◌↔◌, ◌++◌, All, Contains, IfErr, IfOk, IsOk, IsTrue, OnOk, [], false, length, map, slice_index_or, string_bytes, true, vec_len};
 ghost use Rattle.gix_hash.specs.Words.{hex_len_of, id_digits};
 ghost use Rattle.repositories.specs.Answers.{IfKnown};
+ghost use Rattle.directory_store.specs.Loose.{AreLoose};
+ghost use Rattle.directory_store.specs.Opened.{AreWithAlternates, HasAll};
 ghost use Rattle.directory_store.specs.Packs.{ArePacks};
 ghost use Rattle.directory_store.specs.Stores.{AreSettled, IsChanged, index_path, of_repository, pack_path_of};
 
@@ -79,6 +81,12 @@ impl<R: StoreFiles + Clone + Drop> DirectoryStore<R> {
     ) -> Result<DirectoryStore<R>, Error>
         ensures kind { IfOk result (λ store. store.directory.kind ≡ directory.now.kind) }
         ensures listed { IfOk result (λ store. store.loose.which ≡ loose) }
+        ensures directories { IfOk result (λ store. store.skipped.items ≡ [] → IfKnown (λ at.
+            AreWithAlternates at directory.now (map string_bytes store.directories.paths.items))
+            (R.answers rt.now)) }
+        ensures objects { IfOk result (λ store. store.skipped.items ≡ [] → IfKnown (λ at.
+            HasAll at loose (map string_bytes store.directories.paths.items)
+            (⟦<DirectoryStore<R> as Store>⟧.view store)) (R.answers rt.now)) }
     {
         DirectoryStore::open_at(rt, directory, loose, None)
     }
@@ -92,6 +100,12 @@ impl<R: StoreFiles + Clone + Drop> DirectoryStore<R> {
     ) -> Result<DirectoryStore<R>, Error>
         ensures kind { IfOk result (λ store. store.directory.kind ≡ directory.now.kind) }
         ensures listed { IfOk result (λ store. store.loose.which ≡ loose) }
+        ensures directories { IfOk result (λ store. store.skipped.items ≡ [] → IfKnown (λ at.
+            AreWithAlternates at directory.now (map string_bytes store.directories.paths.items))
+            (R.answers rt.now)) }
+        ensures objects { IfOk result (λ store. store.skipped.items ≡ [] → IfKnown (λ at.
+            HasAll at loose (map string_bytes store.directories.paths.items)
+            (⟦<DirectoryStore<R> as Store>⟧.view store)) (R.answers rt.now)) }
     {
         for _ in 1..MAX_TRIES {
             let opened = DirectoryStore::read(rt, directory, loose, now);
@@ -111,6 +125,12 @@ impl<R: StoreFiles + Clone + Drop> DirectoryStore<R> {
     ) -> Result<DirectoryStore<R>, Error>
         ensures kind { IfOk result (λ store. store.directory.kind ≡ directory.now.kind) }
         ensures listed { IfOk result (λ store. store.loose.which ≡ loose) }
+        ensures directories { IfOk result (λ store. store.skipped.items ≡ [] → IfKnown (λ at.
+            AreWithAlternates at directory.now (map string_bytes store.directories.paths.items))
+            (R.answers rt.now)) }
+        ensures objects { IfOk result (λ store. store.skipped.items ≡ [] → IfKnown (λ at.
+            HasAll at loose (map string_bytes store.directories.paths.items)
+            (⟦<DirectoryStore<R> as Store>⟧.view store)) (R.answers rt.now)) }
         ensures settled { IfOk result (λ store. store.is_settled ≡ true
             → (store.skipped.items ≡ []) × AreSettled now store.pack_directories.states.items) }
     {
@@ -347,6 +367,8 @@ fn list<R: Directories>(
     ensures which { IfOk result (λ listed. listed.1.which ≡ loose) }
     ensures packs { IfOk result (λ listed. IfKnown (λ at. ArePacks at
         (map string_bytes packs.now.paths.items) listed.0.paths.items) (R.answers rt.now)) }
+    ensures loose { IfOk result (λ listed. IfKnown (λ at. AreLoose at kind loose
+        (map string_bytes directories.now) listed.1.directories.items) (R.answers rt.now)) }
 {
     let before = packs.list(rt)?;
     let loose = list_loose(rt, directories, kind, loose, now)?;

@@ -1,0 +1,47 @@
+-- Which objects an object directory and its alternates have, and a store that was opened: by what directories and files answer. Ids are given by their digits.
+use Rattle.std.specs.Prelude.{ℕ, ◌≡◌, ◌⊎◌, ◌↔◌, ◌++◌, IsTrue, List, Ok, Some, codes, map, string_bytes}
+use Rattle.std.specs.List.{Contains}
+use Rattle.std.specs.Path.{path_join}
+use Rattle.std.specs.Str.{is_utf8}
+use Rattle.gix_hash.specs.Words.{first_byte_of}
+use Rattle.gix_hash.specs.declared.Kind.{Kind}
+use Rattle.id_lookup.specs.Words.{IsIndex}
+use Rattle.object_store.specs.Stores.{Holds, StoreView}
+use Rattle.pack_index.specs.Format.{IsPackIndex, names_in}
+use Rattle.repositories.specs.Answers.{Answers}
+use Rattle.repositories.specs.Walks.{with_alternates}
+use Rattle.repositories.specs.declared.finding.ObjectDirectory.{ObjectDirectory}
+use Rattle.directory_store.specs.Loose.{HasLoose, bytes_asked, listed_in}
+use Rattle.directory_store.specs.Packs.{is_found_file, packs_of, split_names}
+use Rattle.directory_store.specs.declared.loose.LooseIds.{LooseIds}
+
+-- an object directory has a pack index at this path, whose pack is there
+pub record HasIndex (at : Answers) (directory path : List ℕ) : Type 0 where
+  pub stem : List ℕ
+  pub is_there : Contains (split_names (listed_in (packs_of directory) at)) (stem ++ codes ".idx")
+  pub is_text : IsTrue (is_utf8 (stem ++ codes ".idx"))
+  pub is_path : path ≡ path_join (packs_of directory) (stem ++ codes ".idx")
+  pub has_pack : IsTrue (is_found_file (at.look (path_join (packs_of directory) (stem ++ codes ".pack"))))
+
+-- the file of each pack index of these object directories is one
+abbrev pub AreIndexFiles : Answers → Kind → List (List ℕ) → Type 0
+AreIndexFiles at kind directories = (directory path : List ℕ) → Contains directories directory → HasIndex at directory path → (bytes : List ℕ) × (at.bytes path ≡ Ok bytes) × IsPackIndex kind bytes
+
+-- an object directory has an object: the file of one of its pack indexes has the id, or it is loose, and asked for
+abbrev pub HasObject : Answers → Kind → LooseIds → List ℕ → List ℕ → Type 0
+HasObject at kind which directory digits =
+    ((path : List ℕ) × (bytes : List ℕ) × HasIndex at directory path × (at.bytes path ≡ Ok bytes) × Contains (names_in kind bytes) digits)
+    ⊎ (Contains (bytes_asked which) (first_byte_of digits) × HasLoose at kind directory digits)
+
+-- these are the ids, in order, of the objects that some object directories have
+pub record AreObjects (at : Answers) (kind : Kind) (which : LooseIds) (directories ids : List (List ℕ)) : Type 0 where
+  pub index : IsIndex kind ids
+  pub members : (digits : List ℕ) → Contains ids digits ↔ ((directory : List ℕ) × Contains directories directory × HasObject at kind which directory digits)
+
+-- a store has exactly the objects that some object directories have, if each of their pack indexes is one
+pub record HasAll (at : Answers) (which : LooseIds) (directories : List (List ℕ)) (view : StoreView) : Type 0 where
+  pub holds : (ids : List (List ℕ)) → AreIndexFiles at view.kind directories → AreObjects at view.kind which directories ids → Holds view ids
+
+-- these are the paths of an object directory and of its alternates, of which none is skipped
+abbrev pub AreWithAlternates : Answers → ObjectDirectory → List (List ℕ) → Type 0
+AreWithAlternates at objects directories = with_alternates (string_bytes objects.path) (map string_bytes objects.alternates.items) at ≡ Some (directories, 0)
