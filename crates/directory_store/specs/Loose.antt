@@ -11,7 +11,7 @@ use Rattle.directory_store.specs.declared.loose.FanOut.{FanOut}
 use Rattle.directory_store.specs.declared.loose.LooseDirectory.{LooseDirectory}
 use Rattle.directory_store.specs.declared.loose.LooseIds.{LooseIds}
 use Rattle.directory_store.specs.declared.loose.LooseIds.TheVariants as loose_ids
-use Rattle.directory_store.specs.declared.loose.Part.{Part}
+use Rattle.directory_store.specs.declared.loose.FanOutNames.{FanOutNames}
 
 -- what is listed in a directory, each name ended by a NUL: nothing if it is missing, or is none
 abbrev pub listed_in : List ℕ → Answers → List ℕ
@@ -55,5 +55,5 @@ abbrev pub ListsIfThere : Answers → FanOut → Type 0
 ListsIfThere at fan_out = fan_out.is_missing ≡ true → listed_in (string_bytes fan_out.path) at ≡ []
 
 -- a part has the names for the object directory of this path, at a position
-abbrev pub HasNamesAt : Answers → ℕ → List ℕ → Part → Type 0
+abbrev pub HasNamesAt : Answers → ℕ → List ℕ → FanOutNames → Type 0
 HasNamesAt at index directory part = slice_index_or (map (λ names. names.items) part.names.items) index [] ≡ listed_in (directory ++ 47 ∷ hex_of part.byte) at

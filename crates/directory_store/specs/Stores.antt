@@ -76,8 +76,8 @@ abbrev pub pack_path_of : PackPaths → List ℕ
 pack_path_of paths = string_bytes paths.pack
 
 -- a pack index of this path is among those listed
-abbrev pub IsListed : List PackPaths → PackPaths → Type 0
-IsListed listed paths = Contains (map index_path listed) (index_path paths)
+abbrev pub IsListedPack : List PackPaths → PackPaths → Type 0
+IsListedPack listed paths = Contains (map index_path listed) (index_path paths)
 
 -- the path of a pack is that of its pack index, with another end
 abbrev pub HasPack : PackPaths → Type 0
@@ -104,8 +104,8 @@ IsChanged path (Memory error) = Unit {0}
 IsChanged path _ = ⊥
 
 -- that a pack index of this path is gone, or why it is not read; or memory ran out
-abbrev pub IsOfIndex : List ℕ → LazyError → Error → Type 0
-IsOfIndex path why error = ((look_up : look_ups.Error) × stores.IsOfIndex path why look_up × (error ≡ of_look_up look_up)) ⊎ ((memory : _) × (error ≡ Memory memory))
+abbrev pub IsIndexError : List ℕ → LazyError → Error → Type 0
+IsIndexError path why error = ((look_up : look_ups.Error) × stores.IsOfIndex path why look_up × (error ≡ of_look_up look_up)) ⊎ ((memory : _) × (error ≡ Memory memory))
 
 -- whether an error of a look-up says that a pack index is gone
 abbrev pub is_gone : look_ups.Error → Bool

@@ -1,7 +1,7 @@
 //! Why a store in directories cannot be opened or read.
 
 ghost use Rattle.std.specs.Prelude.{◌≡◌, IsTrue};
-ghost use Rattle.directory_store.specs.Stores.{IsChanged, IsOfIndex, IsUnread, is_change, is_damage, of_look_up, of_repository};
+ghost use Rattle.directory_store.specs.Stores.{IsChanged, IsIndexError, IsUnread, is_change, is_damage, of_look_up, of_repository};
 ghost use Rattle.directory_store.specs.declared.error.Error.TheVariants as errors;
 
 use pack_index::LazyError;
@@ -73,7 +73,7 @@ impl Error {
 
     // A pack index is not there, cannot be read, or is damaged.
     pub(crate) fn index(alloc: Global, path: &str, error: LazyError) -> Error
-        ensures { IsOfIndex path.now error result }
+        ensures { IsIndexError path.now error result }
     {
         match String::from_str(alloc, path) {
             Ok(path) => Error::from(object_store::Error::of_index(path, error)),

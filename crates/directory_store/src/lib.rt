@@ -18,5 +18,5 @@ mod store;
 
 pub use error::Error;
 pub use loose::LooseIds;
-pub use source::{Source, StoreFiles};
+pub use source::{StoreFile, StoreFiles};
 pub use store::DirectoryStore;

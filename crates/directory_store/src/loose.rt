@@ -96,7 +96,7 @@ pub(crate) fn take_loose(
 // The fan-out directories of a first byte, and the names in that of each object directory, each
 // ended by a NUL.
 #[derive(Drop)]
-struct Part {
+struct FanOutNames {
     byte: u8,
     names: Vec<Vec<u8>>,
 }
@@ -255,7 +255,7 @@ impl<R: Directories> Places<'_, R> {
     // Lists the fan-out directories, one first byte after the other. If there are several object
     // directories, in none a fan-out directory may come or go meanwhile. Fails if one does, or if
     // one changes each time that it is listed.
-    fn list_parts(&self, which: LooseIds) -> Result<Vec<Part>, Error>
+    fn list_parts(&self, which: LooseIds) -> Result<Vec<FanOutNames>, Error>
         ensures as_many { IfOk result (λ parts. All (λ part. vec_len part.names
             ≡ length self.now.paths.now) parts.items) }
         ensures bytes { IfOk result (λ parts. map (λ part. part.byte) parts.items
@@ -273,7 +273,7 @@ impl<R: Directories> Places<'_, R> {
         let mut parts = Vec::new(self.rt.alloc());
         for byte in first..=last {
             let names = self.names_with(byte)?;
-            parts.push(Part { byte, names })?;
+            parts.push(FanOutNames { byte, names })?;
         }
         expect_states(self.rt, several, &before)?;
         Ok(parts)
@@ -353,7 +353,7 @@ fn directory_of(
     path: &str,
     kind: Kind,
     index: usize,
-    parts: &[Part],
+    parts: &[FanOutNames],
 ) -> Result<LooseDirectory, Error>
     requires { All (λ part. index < vec_len part.names) parts.now }
     ensures path { IfOk result (λ directory. string_bytes directory.path ≡ path.now) }

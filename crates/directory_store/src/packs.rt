@@ -7,7 +7,7 @@ ghost use Rattle.pack_index.specs.declared.lazy_error.LazyError.TheVariants as e
 ghost use Rattle.repositories.specs.Answers.{IfKnown};
 ghost use Rattle.repositories.specs.States.{IsSettled};
 ghost use Rattle.directory_store.specs.Packs.{AreIndexNames, AreIndexes, AreIndexesIn, ArePacks, bytes_at, has_pack, index_in, packs_of, split_names};
-ghost use Rattle.directory_store.specs.Stores.{HasPack, IsListed, IsOfIndex, IsUnread, index_path, pack_path_of};
+ghost use Rattle.directory_store.specs.Stores.{HasPack, IsListedPack, IsIndexError, IsUnread, index_path, pack_path_of};
 
 use crate::error::Error;
 use crate::listing::{are_settled, expect_states, list_names, states_of};
@@ -77,7 +77,7 @@ impl PackDirectories {
         earlier: &PackIndexes,
     ) -> Result<PackIndexes, Error>
         ensures earlier { IfOk result (λ listed. listed.are_all ≡ true
-            → All (IsListed listed.paths.items) earlier.now.paths.items) }
+            → All (IsListedPack listed.paths.items) earlier.now.paths.items) }
         ensures packs { IfOk result (λ listed. IfKnown (λ at. ArePacks at
             (map string_bytes self.now.paths.items) listed.paths.items) (R.answers rt.now)) }
     {
@@ -134,7 +134,7 @@ pub(crate) struct PackIndexes {
 impl PackIndexes {
     // Fails if one of those of an earlier list is not among them, since it was removed.
     pub(crate) fn expect_all(&self, alloc: Global, earlier: &PackIndexes) -> Result<(), Error>
-        ensures { OnOk result (All (IsListed self.now.paths.items) earlier.now.paths.items) }
+        ensures { OnOk result (All (IsListedPack self.now.paths.items) earlier.now.paths.items) }
     {
         let Some(gone) = first_gone(&earlier.paths, &self.paths) else {
             return Ok(());
@@ -165,7 +165,7 @@ impl PackIndexes {
 
 // The first pack index of an earlier list that is not in this one, which is in the same order.
 fn first_gone<'a>(earlier: &'a [PackPaths], listed: &[PackPaths]) -> Option<&'a PackPaths>
-    ensures { IsNone result → All (IsListed listed.now) earlier.now }
+    ensures { IsNone result → All (IsListedPack listed.now) earlier.now }
 {
     let mut left = earlier;
     for paths in listed {
@@ -338,7 +338,7 @@ fn open_all<R: StoreFiles>(
     let mut skipped = Vec::new(rt.alloc());
     let share = MAX_KEPT / (listed.len() as u64).max(1);
     for (at, one) in listed.iter().enumerate() {
-        match open_index(rt, &one.index, at < most_open, share, kind) {
+        match open_pack_index(rt, &one.index, at < most_open, share, kind) {
             Ok(index) => {
                 paths.push(one.copy()?)?;
                 indexes.push(index)?;
@@ -355,7 +355,7 @@ fn open_all<R: StoreFiles>(
 }
 
 // Opens a pack index, to stay open or to be opened again for each read of what is not kept.
-fn open_index<R: StoreFiles>(
+fn open_pack_index<R: StoreFiles>(
     rt: &R,
     path: &str,
     stays_open: bool,
@@ -379,7 +379,7 @@ fn open_index<R: StoreFiles>(
 // Why a pack index cannot be opened. A link to nothing is there, and so it was not removed; a file
 // that was not found and is there now was, and has come back.
 fn not_opened<R: Directories>(rt: &R, path: &str, error: io::Error) -> Error
-    ensures { IsUnread result ⊎ IsOfIndex path.now (errors.Read error) result }
+    ensures { IsUnread result ⊎ IsIndexError path.now (errors.Read error) result }
 {
     let is_missing = error.kind() == io::ErrorKind::NotFound;
     match rt.look_at_link(path) {

@@ -39,10 +39,15 @@ pub trait StoreFiles: Directories {
 
 /// What a file of the host contains is not known.
 impl<R: Files<File = File> + AllocGlobal + Clone + Drop> StoreFiles for R {
-    type Source = Source<R>;
+    type Source = StoreFile<R>;
 
-    fn open_source(&self, path: &str, stays_open: bool, most_kept: u64) -> io::Result<Source<R>> {
-        Source::open(self, path, stays_open, most_kept)
+    fn open_source(
+        &self,
+        path: &str,
+        stays_open: bool,
+        most_kept: u64,
+    ) -> io::Result<StoreFile<R>> {
+        StoreFile::open(self, path, stays_open, most_kept)
     }
 }
 
@@ -52,11 +57,11 @@ impl<R: Files<File = File> + AllocGlobal + Clone + Drop> StoreFiles for R {
 /// is kept, or of nothing, reads no file.
 ///
 /// ```
-/// let source = directory_store::Source::open(rt, "pack-1.idx", true, 1 << 20)?;
+/// let source = directory_store::StoreFile::open(rt, "pack-1.idx", true, 1 << 20)?;
 /// let index = pack_index::LazyFile::open(source, Kind::Sha1)?;
 /// ```
 #[derive(Drop)]
-pub struct Source<R> {
+pub struct StoreFile<R> {
     rt: R,
     alloc: Global,
     path: String,
@@ -89,16 +94,16 @@ impl Kept {
     }
 }
 
-impl<R: Files<File = File> + AllocGlobal + Clone> Source<R> {
+impl<R: Files<File = File> + AllocGlobal + Clone> StoreFile<R> {
     /// Opens a file, to stay open or to be opened again for each read of what is not kept. It may
     /// be kept whole if it has at most `most_kept` bytes.
-    pub fn open(rt: &R, path: &str, stays_open: bool, most_kept: u64) -> io::Result<Source<R>>
+    pub fn open(rt: &R, path: &str, stays_open: bool, most_kept: u64) -> io::Result<StoreFile<R>>
         ensures path { IfOk result (λ source. string_bytes source.path ≡ path.now) }
         ensures file { IfOk result (λ source. IsSome source.file ↔ (stays_open ≡ true)) }
     {
         let file = fs::open(rt, path)?;
         let len = retried(|| ReadAt::len(&file))?;
-        let mut source = Source {
+        let mut source = StoreFile {
             rt: rt.clone()?,
             alloc: rt.alloc(),
             path: String::from_str(rt.alloc(), path)?,
@@ -119,7 +124,7 @@ impl<R: Files<File = File> + AllocGlobal + Clone> Source<R> {
     }
 }
 
-impl<R: Files<File = File>> Source<R> {
+impl<R: Files<File = File>> StoreFile<R> {
     // Reads and keeps at most `most` bytes, from a position on, in place of those that were kept.
     // If memory runs out, none are read.
     fn keep(&self, start: u64, most: usize) -> io::Result<()> {
@@ -168,7 +173,7 @@ impl<R: Files<File = File>> Source<R> {
 }
 
 /// What a file contains is not known.
-impl<R: Files<File = File>> ReadAt for Source<R> {
+impl<R: Files<File = File>> ReadAt for StoreFile<R> {
     ghost content = { λ _. None };
 
     ghost path = { λ source. string_bytes source.path };

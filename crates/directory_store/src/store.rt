@@ -136,7 +136,7 @@ impl<R: StoreFiles + Clone + Drop> DirectoryStore<R> {
     {
         let mut directories = with_alternates(rt, directory)?;
         let pack_directories = PackDirectories::of(rt, &directories.paths)?;
-        let (listed, loose) = list(
+        let (listed, loose) = list_store(
             rt,
             &pack_directories,
             &directories.paths,
@@ -155,7 +155,7 @@ impl<R: StoreFiles + Clone + Drop> DirectoryStore<R> {
         Ok(DirectoryStore {
             rt: rt.clone()?,
             directory: copy_of(directory)?,
-            is_settled: are_settled(listed.are_all, &skipped, &pack_directories, now),
+            is_settled: is_store_settled(listed.are_all, &skipped, &pack_directories, now),
             directories,
             pack_directories,
             skipped,
@@ -355,7 +355,7 @@ impl<R: StoreFiles + Clone + Drop> DirectoryStore<R> {
 // An object is in a new pack before its loose file or its old pack is removed, and loose before its
 // pack is removed: so the packs are listed after the loose objects, and before them too, and none
 // may be gone after.
-fn list<R: Directories>(
+fn list_store<R: Directories>(
     rt: &R,
     packs: &PackDirectories,
     directories: &[String],
@@ -377,7 +377,7 @@ fn list<R: Directories>(
 
 // Whether the packs are those that are there as long as their directories are unchanged: none is
 // left out or skipped, and each later change of a directory leaves another state.
-fn are_settled(
+fn is_store_settled(
     are_all: bool,
     skipped: &[Error],
     directories: &PackDirectories,

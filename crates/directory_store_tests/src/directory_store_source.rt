@@ -1,7 +1,7 @@
 //! Files, as sources.
 
 use crate::expecting::expect;
-use directory_store::Source;
+use directory_store::StoreFile;
 use gix_hash::Kind;
 use std::fs;
 use std::fs::File;
@@ -19,7 +19,7 @@ fn files_are_longer_than_32_bits_count(rt: HostRuntime) -> Result<(), Fail> {
     file.write_all_at(tree.as_slice(), 1 << 32)?;
     file.write_all_at(blob.as_slice(), (1 << 32) + 20)?;
     for stays_open in [true, false] {
-        let source = Source::open(&rt, path, stays_open, 0)?;
+        let source = StoreFile::open(&rt, path, stays_open, 0)?;
         expect!(&rt; source.len()? == (1 << 32) + 40);
         for &(at, want) in &[(1 << 32, tree), ((1 << 32) + 20, blob)] {
             let mut id = kind.null();
@@ -38,7 +38,7 @@ fn bytes_that_were_read_are_kept(rt: HostRuntime) -> Result<(), Fail> {
     for stays_open in [true, false] {
         let file = File::create_new(&rt, path)?;
         file.write_all_at(b"last", 20_000)?;
-        let source = Source::open(&rt, path, stays_open, 0)?;
+        let source = StoreFile::open(&rt, path, stays_open, 0)?;
         let mut bytes = [0; 4];
         source.read_exact_at(&mut bytes, 16_380)?;
         fs::remove_file(&rt, path)?;
@@ -57,7 +57,7 @@ fn files_are_kept_whole(rt: HostRuntime) -> Result<(), Fail> {
     for &(most_kept, is_kept) in &[(40_003, false), (40_004, true)] {
         let file = File::create_new(&rt, path)?;
         file.write_all_at(b"last", 40_000)?;
-        let source = Source::open(&rt, path, false, most_kept)?;
+        let source = StoreFile::open(&rt, path, false, most_kept)?;
         let mut bytes = [0; 4];
         for &at in &[20_000, 0, 40_000] {
             source.read_exact_at(&mut bytes, at)?;

@@ -14,7 +14,7 @@ one_more f g ys indexes y index is before = map-append f ys (y ∷ []) ∙ (λ i
 pub loop-at-preserved : goal.loop-at-preserved
 loop-at-preserved g c =
     let IsOfKind = λ (index : LazyIndex). index.kind ≡ c.args.kind in
-    elim c.match-open_index.branch [
+    elim c.match-open_pack_index.branch [
       | in-Ok+in_ok-copy-in-Ok+in_ok-push-in-Ok+in_ok-push-in-Ok-2 w ↦
           let paths = c.loop-at.paths.items in
           let indexes = c.loop-at.indexes.items in

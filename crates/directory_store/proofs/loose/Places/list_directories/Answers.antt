@@ -2,7 +2,7 @@ use Rattle.gix_hash.proofs.Std.{All, All-push, List, ap, ap₂, arith, map, map-
 use Rattle.std.proofs.lemmas.List.{map_more}
 use Rattle.directory_store.specs.Loose.{AreLooseIn, HasAllLoose, HasNamesAt}
 use Rattle.directory_store.specs.declared.loose.LooseDirectory.{LooseDirectory}
-use Rattle.directory_store.specs.declared.loose.Part.{Part}
+use Rattle.directory_store.specs.declared.loose.FanOutNames.{FanOutNames}
 use Rattle.directory_store.proofs.LooseNames.{at_position}
 use Rattle.directory_store.proofs.loose.Places.list_directories.Goals as goal
 
@@ -25,8 +25,8 @@ loop-index-preserved g c =
           let all : All (HasNamesAt at index (string_bytes item)) c.in_ok-parts.parts.items = λ k d low.
           at_position at _ index paths _ item (c.in_ok-parts.ensures.names at known k d low) (omega arith) c.path-item.is in
           let named = subst (λ (path : List ℕ). All (HasNamesAt at index path) c.deref-in-loop-index.result.now) (sym c.deref.ensures) (subst (All (HasNamesAt at index (string_bytes item))) (sym c.deref-in-loop-index.ensures.value) all) in
-          let bytes = ap (map (λ (part : Part). part.byte)) c.deref-in-loop-index.ensures.value ∙ c.in_ok-parts.ensures.bytes in
+          let bytes = ap (map (λ (part : FanOutNames). part.byte)) c.deref-in-loop-index.ensures.value ∙ c.in_ok-parts.ensures.bytes in
           let asked = subst (λ (bytes : List ℕ). AreLooseIn at kind bytes (path_of directory) directory.table.ids) bytes
-          (subst (λ (path : List ℕ). AreLooseIn at kind (map (λ (part : Part). part.byte) c.deref-in-loop-index.result.now) path directory.table.ids) (sym c.in_ok-directory_of.ensures.path) (c.in_ok-directory_of.ensures.loose at named)) in
+          (subst (λ (path : List ℕ). AreLooseIn at kind (map (λ (part : FanOutNames). part.byte) c.deref-in-loop-index.result.now) path directory.table.ids) (sym c.in_ok-directory_of.ensures.path) (c.in_ok-directory_of.ensures.loose at named)) in
           subst (All (HasAllLoose at kind c.args.which)) (sym c.in_ok-push.ensures.items) (All-push (HasAllLoose at kind c.args.which) directories directory (c.loop-index.invariant.loose at known) asked);
     }
