@@ -6,6 +6,8 @@
 #![tactic(auto)]
 
 mod error;
+/// Laws of opened stores.
+pub mod laws;
 mod listing;
 mod loose;
 mod packs;
