@@ -15,7 +15,6 @@ mod directory_store_source;
 mod directory_store_store;
 #[cfg(test)]
 mod expecting;
-#[cfg(test)]
 mod mem_tree;
 #[cfg(test)]
 mod moving;

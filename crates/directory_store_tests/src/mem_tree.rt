@@ -1,5 +1,9 @@
 //! Directories and files in memory, of which one call fails if it is told to.
 
+ghost use Rattle.std.specs.Prelude.{◌≡◌, IsNone, IsOk, MatchResult, Err, Ok, bytes_eq, find};
+ghost use Rattle.std.specs.IoError.{error_kind};
+ghost use Rattle.directory_store_tests.specs.Trees.{answer, answers_of, entry_at, found_at, text_of};
+
 use repositories::{Directories, FileState, Found};
 use std::alloc::{Alloc, Global};
 use std::cell::Cell;
@@ -22,8 +26,8 @@ pub enum Entry {
 pub struct MemTree<'a> {
     pub alloc: Global,
     pub entries: &'a [(&'static str, Entry)],
-    /// Which call fails, from 0 on.
-    pub fails_at: u32,
+    /// Which call fails, from 0 on, if one does.
+    pub fails_at: Option<u32>,
     /// How many calls there were.
     pub calls: Cell<u32>,
 }
@@ -37,24 +41,39 @@ impl Alloc for MemTree<'_> {
 }
 
 impl MemTree<'_> {
-    // What is at a path, and its number.
-    fn entry(&self, path: &str) -> io::Result<(Entry, u64)> {
+    // Counts a call, which fails if it is told to.
+    fn call(&self) -> io::Result<()>
+        ensures { IsNone self.now.fails_at → IsOk result }
+    {
         let call = self.calls.get();
         self.calls.set(call.saturating_add(1));
-        if call == self.fails_at {
-            return Err(ErrorKind::PermissionDenied.into());
+        match self.fails_at {
+            Some(fails) if fails == call => Err(ErrorKind::PermissionDenied.into()),
+            _ => Ok(()),
         }
-        for (number, (known, entry)) in self.entries.iter().enumerate() {
-            if *known == path {
-                return Ok((*entry, number as u64));
-            }
+    }
+
+    // What is at a path.
+    fn entry(&self, path: &str) -> io::Result<Entry>
+        ensures { IsNone self.now.fails_at → MatchResult result
+            (λ entry. entry_at self.now.entries.now path.now ≡ Ok entry)
+            (λ error. entry_at self.now.entries.now path.now ≡ Err (error_kind error)) }
+    {
+        self.call()?;
+        match first_of(self.entries, path) {
+            Some(entry) => Ok(entry.1),
+            None => Err(ErrorKind::NotFound.into()),
         }
-        Err(ErrorKind::NotFound.into())
     }
 
     // The text of a file.
-    fn text(&self, path: &str) -> io::Result<&'static str> {
-        match self.entry(path)?.0 {
+    fn text(&self, path: &str) -> io::Result<&'static str>
+        ensures { IsNone self.now.fails_at → MatchResult result
+            (λ text. answer text_of (entry_at self.now.entries.now path.now) ≡ Ok text.now)
+            (λ error. answer text_of (entry_at self.now.entries.now path.now)
+            ≡ Err (error_kind error)) }
+    {
+        match self.entry(path)? {
             Entry::File(text) => Ok(text),
             Entry::Directory | Entry::Root => Err(ErrorKind::IsADirectory.into()),
             Entry::Link(_) => Err(ErrorKind::NotFound.into()),
@@ -62,65 +81,82 @@ impl MemTree<'_> {
     }
 }
 
-/// A tree whose calls fail claims nothing.
+/// What the tree answers is known, unless a call is told to fail. It lists no names.
 impl Directories for MemTree<'_> {
-    ghost use Rattle.std.specs.Prelude.{None};
-
-    ghost answers = { λ _. None };
+    ghost answers = { answers_of };
 
     fn look(&self, path: &str) -> io::Result<Found> {
-        match self.entry(path)? {
-            (Entry::Link(_), _) => Err(ErrorKind::NotFound.into()),
-            (Entry::Root, _) => Ok(found(Entry::Root, u64::MAX)),
-            (entry, number) => Ok(found(entry, number)),
+        match self.entry(path) {
+            Ok(Entry::Link(_)) => Err(ErrorKind::NotFound.into()),
+            Ok(entry) => Ok(found_at(path, entry)),
+            Err(error) => Err(error),
         }
     }
 
     fn look_at_link(&self, path: &str) -> io::Result<Found> {
-        let (entry, number) = self.entry(path)?;
-        Ok(found(entry, number))
+        match self.entry(path) {
+            Ok(entry) => Ok(found_at(path, entry)),
+            Err(error) => Err(error),
+        }
     }
 
-    // The names of those that have this path before their last slash.
-    fn names(&self, path: &str) -> io::Result<Vec<u8>> {
-        if let Entry::File(_) | Entry::Link(_) = self.entry(path)?.0 {
-            return Err(ErrorKind::NotADirectory.into());
-        }
-        let mut names = Vec::new(self.alloc);
-        for (known, _) in self.entries {
-            if let Some((above, name)) = known.rsplit_once('/')
-                && above == path
-            {
-                names.extend_from_slice(name.as_bytes())?;
-                names.push(0)?;
-            }
-        }
-        Ok(names)
+    fn names(&self, _: &str) -> io::Result<Vec<u8>> {
+        self.call()?;
+        Err(ErrorKind::Unsupported.into())
     }
 
     fn read(&self, path: &str) -> io::Result<Vec<u8>> {
-        Ok(self.text(path)?.as_bytes().to_vec(self.alloc)?)
+        match self.text(path) {
+            Ok(text) => Ok(text.as_bytes().to_vec(self.alloc)?),
+            Err(error) => Err(error),
+        }
     }
 
     fn read_text(&self, path: &str) -> io::Result<String> {
-        Ok(String::from_str(self.alloc, self.text(path)?)?)
+        match self.text(path) {
+            Ok(text) => Ok(String::from_str(self.alloc, text)?),
+            Err(error) => Err(error),
+        }
     }
 
     fn read_link(&self, path: &str) -> io::Result<String> {
-        match self.entry(path)?.0 {
-            Entry::Link(text) => Ok(String::from_str(self.alloc, text)?),
-            _ => Err(ErrorKind::InvalidInput.into()),
+        match self.entry(path) {
+            Ok(Entry::Link(text)) => Ok(String::from_str(self.alloc, text)?),
+            Ok(_) => Err(ErrorKind::InvalidInput.into()),
+            Err(error) => Err(error),
         }
     }
 
     fn real_path(&self, path: &str) -> io::Result<String> {
-        self.entry(path)?;
-        Ok(String::from_str(self.alloc, path)?)
+        match self.entry(path) {
+            Ok(_) => Ok(String::from_str(self.alloc, path)?),
+            Err(error) => Err(error),
+        }
     }
 }
 
-// What is said of what is there, by its number.
-fn found(entry: Entry, number: u64) -> Found {
+// The first entry of a path.
+fn first_of(entries: &[(&'static str, Entry)], path: &str) -> Option<(&'static str, Entry)>
+    ensures { result ≡ find (λ entry. bytes_eq path.now entry.0.now) entries.now }
+{
+    entries.iter().copied().find(|entry| is_same(path, entry.0))
+}
+
+// Whether two texts are the same.
+fn is_same(text: &str, other: &str) -> bool
+    ensures { result ≡ bytes_eq text.now other.now }
+{
+    text == other
+}
+
+// What is found at a path. The number is the length of the path, and 0 for the root.
+fn found_at(path: &str, entry: Entry) -> Found
+    ensures { result ≡ found_at path.now entry }
+{
+    let number = match entry {
+        Entry::Root => 0,
+        _ => path.len() as u64,
+    };
     Found {
         is_directory: matches!(entry, Entry::Directory | Entry::Root),
         is_file: matches!(entry, Entry::File(_)),

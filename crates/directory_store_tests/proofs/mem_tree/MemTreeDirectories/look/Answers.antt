@@ -1,0 +1,10 @@
+use Rattle.gix_hash.proofs.Std.{◌∙◌, ap}
+use Rattle.repositories.specs.Answers.{Answers}
+use Rattle.directory_store_tests.specs.Trees.{answer, look_at}
+use Rattle.directory_store_tests.proofs.Trees.{answers_are}
+use Rattle.directory_store_tests.proofs.mem_tree.MemTreeDirectories.look.Goals as goal
+
+pub returns-in-Err : goal.returns-in-Err
+returns-in-Err c = λ at known other.
+    let is = answers_are c.args.self.now at known in
+    ap (λ (a : Answers). a.look c.args.path.now) is.1 ∙ ap (answer (look_at c.args.path.now)) (c.in-Err.ensures is.0)
