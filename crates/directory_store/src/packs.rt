@@ -11,21 +11,28 @@ ghost use Rattle.directory_store.specs.Stores.{HasPack, IsListedPack, IsIndexErr
 
 use crate::error::Error;
 use crate::listing::{are_settled, expect_states, list_names, states_of};
-use crate::source::StoreFiles;
+use crate::source::{StoreFiles, most_kept_of};
 use gix_hash::Kind;
 use pack_index::{LazyError, LazyFile};
 use repositories::{Directories, FileState, join};
 use std::alloc::{AllocError, Global};
 use std::time::SystemTime;
 use std::{io, mem, str};
+use streams::ReadAt;
 
-// How many pack indexes are kept open. The others are opened again to be read, so that a store of
-// any number of packs is read with few open files.
-const MAX_OPEN: usize = 64;
+// How many pack indexes stay open at most. The others are opened again to be read, so that a store
+// of any number of packs is read with few open files.
+const MAX_OPEN: usize = 512;
 
-// How many bytes of pack indexes are kept at most. Each has an equal share, and is kept whole if it
-// fits.
-const MAX_KEPT: u64 = 1 << 24;
+// How many stay open if the process may not open that many.
+const FEW_OPEN: usize = 64;
+
+// How many bytes of pack indexes are kept at most. Each index has an equal share of what those
+// before it have left, and is kept whole if it fits. (Beyond 16,384 indexes each keeps 4096 bytes.)
+const MAX_KEPT: u64 = 1 << 26;
+
+// The largest share. A longer index gains little, since a look-up reads some 4096 bytes of it.
+const MAX_KEPT_OF_ONE: u64 = 1 << 22;
 
 // The directories of packs in object directories, in order, each with its state before it was
 // listed.
@@ -308,11 +315,13 @@ pub(crate) fn open_indexes<R: StoreFiles>(
     ensures paths { IfOk result (λ opened. opened.skipped.items ≡ []
         → map index_path opened.paths.items ≡ map index_path paths.now) }
 {
-    match open_all(rt, paths, MAX_OPEN, kind) {
-        Ok(opened) => Ok(opened),
-        Err(error) if error.is_too_many_open() => open_all(rt, paths, 0, kind),
-        Err(error) => Err(error),
+    for most_open in [MAX_OPEN, FEW_OPEN] {
+        let opened = open_all(rt, paths, most_open, kind);
+        if !matches!(&opened, Err(error) if error.is_too_many_open()) {
+            return opened;
+        }
     }
+    open_all(rt, paths, 0, kind)
 }
 
 // Opens pack indexes, of which the first ones stay open. One is skipped if it is none of version 2
@@ -336,9 +345,10 @@ fn open_all<R: StoreFiles>(
     let mut paths = Vec::with_capacity(rt.alloc(), listed.len())?;
     let mut indexes = Vec::with_capacity(rt.alloc(), listed.len())?;
     let mut skipped = Vec::new(rt.alloc());
-    let share = MAX_KEPT / (listed.len() as u64).max(1);
+    let mut left = MAX_KEPT;
     for (at, one) in listed.iter().enumerate() {
-        match open_pack_index(rt, &one.index, at < most_open, share, kind) {
+        let share = (left / (listed.len() - at) as u64).min(MAX_KEPT_OF_ONE);
+        match open_pack_index(rt, &one.index, at < most_open, share, &mut left, kind) {
             Ok(index) => {
                 paths.push(one.copy()?)?;
                 indexes.push(index)?;
@@ -360,6 +370,7 @@ fn open_pack_index<R: StoreFiles>(
     path: &str,
     stays_open: bool,
     most_kept: u64,
+    left: &mut u64,
     kind: Kind,
 ) -> Result<LazyFile<R::Source>, Error>
     ensures kind { IfOk result (λ index. index.kind ≡ kind) }
@@ -369,6 +380,8 @@ fn open_pack_index<R: StoreFiles>(
 {
     let source = rt.open_source(path, stays_open, most_kept);
     let source = source.map_err(|error| not_opened(rt, path, error))?;
+    let len = source.len().unwrap_or(u64::MAX);
+    *left = left.saturating_sub(most_kept_of(len, stays_open, most_kept));
     match LazyFile::open(source, kind) {
         Ok(index) => Ok(index),
         Err(LazyError::Read(error)) => Err(not_opened(rt, path, error)),

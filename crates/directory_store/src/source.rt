@@ -1,22 +1,22 @@
 //! What a pack index is read from.
 
-ghost use Rattle.std.specs.Prelude.{◌≡◌, ◌↔◌, ◌+◌, ◌-◌, ◌≤◌, IfOk, IsSome, None, false, length, string_bytes, true, vec_len};
+ghost use Rattle.std.specs.Prelude.{◌≡◌, ◌↔◌, ◌+◌, ◌-◌, ◌≤◌, IfOk, IsSome, None, false, length, max, string_bytes, true, vec_len};
 ghost use Rattle.repositories.specs.Answers.{IfKnown};
 ghost use Rattle.directory_store.specs.Packs.{bytes_at};
 ghost use Rattle.streams.specs.Streams.{IsReadAt};
 
 use repositories::{Directories, retried};
 use std::alloc::{AllocError, Global};
-use std::cell::Cell;
+use std::cell::{Cell, RefCell};
 use std::fs::File;
 use std::rt::Files;
 use std::{fs, io};
 use streams::ReadAt;
 
-// How many bytes are read at once of a file that stays open.
+// How many bytes a short read takes of a file that stays open.
 const OPEN_LEN: usize = 4096;
 
-// How many bytes are read at once of a file that is opened again for it.
+// How many bytes it takes of a file that is opened again for each read, if as many may be kept.
 const CLOSED_LEN: usize = 16384;
 
 /// Directories, and files in them that are read at positions.
@@ -51,10 +51,11 @@ impl<R: Files<File = File> + AllocGlobal + Clone + Drop> StoreFiles for R {
     }
 }
 
-/// A file of a store, with its length as it was opened. A short read takes the bytes after those
-/// asked for too, and keeps them: up to 4096 of a file that stays open, or else 16384. Of a file
-/// that may be kept whole each further read takes twice as many, until all are kept. A read of what
-/// is kept, or of nothing, reads no file.
+/// A file of a store, with its length as it was opened. A read of fewer than 4096 bytes takes 4096,
+/// as many before as after those that are asked for, and keeps them. Of a file that is opened again
+/// for each read it takes 16384 bytes, if as many may be kept. Once such reads took a quarter of
+/// the length of a file that may be kept whole, the next one takes and keeps all. A read of what is
+/// kept, or of nothing, reads no file.
 ///
 /// ```
 /// let source = directory_store::StoreFile::open(rt, "pack-1.idx", true, 1 << 20)?;
@@ -68,10 +69,11 @@ pub struct StoreFile<R> {
     // If there is none, it is opened for each read.
     file: Option<File>,
     len: u64,
-    kept: Cell<Kept>,
-    // How many bytes the next short read takes, and whether all may be kept.
-    window: Cell<usize>,
     may_keep_all: bool,
+    // How many bytes a short read takes, and how many all such reads took.
+    window: usize,
+    taken: Cell<u64>,
+    kept: RefCell<Kept>,
 }
 
 // Bytes of a file from a position on.
@@ -82,7 +84,15 @@ struct Kept {
 }
 
 impl Kept {
+    fn nothing(alloc: Global) -> Kept {
+        Kept {
+            start: 0,
+            bytes: Vec::new(alloc),
+        }
+    }
+
     // Whether they contain those from a position on that fill a buffer. If so, it has them.
+    #[inline(always)]
     fn copy_to(&self, buf: &mut [u8], at: u64) -> bool
         ensures copied { result ≡ true → (self.now.start ≤ at)
             × IsReadAt self.now.bytes.items (at - self.now.start) buf.new }
@@ -107,17 +117,15 @@ impl<R: Files<File = File> + AllocGlobal + Clone> StoreFile<R> {
             rt: rt.clone()?,
             alloc: rt.alloc(),
             path: String::from_str(rt.alloc(), path)?,
-            len,
-            window: Cell::new(if stays_open { OPEN_LEN } else { CLOSED_LEN }),
-            may_keep_all: len <= most_kept,
             file: Some(file),
-            kept: Cell::new(Kept {
-                start: 0,
-                bytes: Vec::new(rt.alloc()),
-            }),
+            len,
+            may_keep_all: len <= most_kept,
+            window: window_of(stays_open, most_kept),
+            taken: Cell::new(0),
+            kept: RefCell::new(Kept::nothing(rt.alloc())),
         };
         if !stays_open {
-            source.keep(0, CLOSED_LEN)?;
+            source.keep(0, source.window)?;
             source.file = None;
         }
         Ok(source)
@@ -125,26 +133,35 @@ impl<R: Files<File = File> + AllocGlobal + Clone> StoreFile<R> {
 }
 
 impl<R: Files<File = File>> StoreFile<R> {
-    // Reads and keeps at most `most` bytes, from a position on, in place of those that were kept.
-    // If memory runs out, none are read.
+    // Reads and keeps at most `most` bytes from a position on, instead of those that were kept. If
+    // memory runs out, it reads and keeps none.
     fn keep(&self, start: u64, most: usize) -> io::Result<()> {
         let len = self.len.saturating_sub(start).min(most as u64) as usize;
-        drop(self.take_kept());
-        let bytes: Result<Vec<u8>, AllocError> = vec![in self.alloc; 0; len];
-        if let Ok(mut bytes) = bytes {
-            self.read(&mut bytes, start)?;
-            self.kept.set(Kept { start, bytes });
-        }
+        let Some(mut bytes) = self.take_room(len) else {
+            return Ok(());
+        };
+        self.read(&mut bytes, start)?;
+        let _ = self.kept.try_replace(Kept { start, bytes });
         Ok(())
     }
 
-    // How many bytes a short read takes: if all may be kept, twice as many as the one before.
-    fn next_window(&self) -> usize {
-        let window = self.window.get();
-        if self.may_keep_all && (window as u64) < self.len {
-            self.window.set(window.saturating_mul(2));
+    // Memory for so many bytes: that of the bytes that were kept, if they are as many. They are not
+    // kept any more. `None` if memory runs out.
+    fn take_room(&self, len: usize) -> Option<Vec<u8>> {
+        let nothing = Kept::nothing(self.alloc);
+        let (Ok(Kept { bytes, .. }) | Err(Kept { bytes, .. })) = self.kept.try_replace(nothing);
+        if bytes.len() == len {
+            return Some(bytes);
         }
-        window
+        drop(bytes);
+        let room: Result<Vec<u8>, AllocError> = vec![in self.alloc; 0; len];
+        room.ok()
+    }
+
+    // Whether the next read of what is not kept takes all bytes.
+    fn takes_all(&self) -> bool {
+        let is_worth_it = self.taken.get() >= self.len / 4;
+        self.len <= self.window as u64 || self.may_keep_all && is_worth_it
     }
 
     // Fills the buffer from the file.
@@ -155,20 +172,30 @@ impl<R: Files<File = File>> StoreFile<R> {
         }
     }
 
-    // Fills the buffer from what is kept, if that has the bytes.
-    fn copy_kept(&self, buf: &mut [u8], at: u64) -> bool {
-        let kept = self.take_kept();
-        let is_copied = kept.copy_to(buf, at);
-        self.kept.set(kept);
-        is_copied
+    // Fills the buffer with bytes that are not kept, and keeps more of the file if they are few.
+    #[inline(never)]
+    fn read_more(&self, buf: &mut [u8], at: u64) -> io::Result<()> {
+        if self.takes_all() {
+            self.keep(0, usize::MAX)?;
+        } else if buf.len() < self.window {
+            let taken = self.taken.get().saturating_add(self.window as u64);
+            self.taken.set(taken);
+            let before = (self.window - buf.len()) / 2;
+            self.keep(at.saturating_sub(before as u64), self.window)?;
+        }
+        if self.copy_kept(buf, at) {
+            return Ok(());
+        }
+        self.read(buf, at)
     }
 
-    // What is kept, of which nothing is left.
-    fn take_kept(&self) -> Kept {
-        self.kept.replace(Kept {
-            start: 0,
-            bytes: Vec::new(self.alloc),
-        })
+    // Fills the buffer from what is kept, if that has the bytes.
+    #[inline(always)]
+    fn copy_kept(&self, buf: &mut [u8], at: u64) -> bool {
+        match self.kept.try_borrow() {
+            Ok(kept) => kept.copy_to(buf, at),
+            Err(_) => false,
+        }
     }
 }
 
@@ -184,18 +211,33 @@ impl<R: Files<File = File>> ReadAt for StoreFile<R> {
         Ok(self.len)
     }
 
+    #[inline(always)]
     fn read_exact_at(&self, buf: &mut [u8], at: u64) -> io::Result<()> {
         if buf.is_empty() || self.copy_kept(buf, at) {
             return Ok(());
         }
-        let most = self.next_window();
-        if buf.len() < most {
-            let start = if (most as u64) < self.len { at } else { 0 };
-            self.keep(start, most)?;
-            if self.copy_kept(buf, at) {
-                return Ok(());
-            }
-        }
-        self.read(buf, at)
+        self.read_more(buf, at)
+    }
+}
+
+// How many bytes a short read takes of a file of which at most `most_kept` bytes may be kept.
+fn window_of(stays_open: bool, most_kept: u64) -> usize
+    ensures { result ≤ max 4096 most_kept }
+{
+    if stays_open || most_kept < CLOSED_LEN as u64 {
+        OPEN_LEN
+    } else {
+        CLOSED_LEN
+    }
+}
+
+// How many bytes are kept at most of a file of `len` bytes.
+pub(crate) fn most_kept_of(len: u64, stays_open: bool, most_kept: u64) -> u64
+    ensures { result ≤ max 4096 most_kept }
+{
+    if len <= most_kept {
+        len
+    } else {
+        window_of(stays_open, most_kept) as u64
     }
 }

@@ -38,7 +38,7 @@ fn bytes_that_were_read_are_kept(rt: HostRuntime) -> Result<(), Fail> {
     for stays_open in [true, false] {
         let file = File::create_new(&rt, path)?;
         file.write_all_at(b"last", 20_000)?;
-        let source = StoreFile::open(&rt, path, stays_open, 0)?;
+        let source = StoreFile::open(&rt, path, stays_open, 16_384)?;
         let mut bytes = [0; 4];
         source.read_exact_at(&mut bytes, 16_380)?;
         fs::remove_file(&rt, path)?;
@@ -47,6 +47,20 @@ fn bytes_that_were_read_are_kept(rt: HostRuntime) -> Result<(), Fail> {
         expect!(&rt; (bytes == *b"last") == stays_open);
         expect!(&rt; source.read_exact_at(&mut bytes, 20_001).is_err());
     }
+    Ok(())
+}
+
+// A file of which at most 4095 bytes may be kept keeps 4096, and no more.
+#[test]
+fn few_bytes_are_kept_of_a_closed_file(rt: HostRuntime) -> Result<(), Fail> {
+    let path = "few_bytes_are_kept_of_a_closed_file";
+    let file = File::create_new(&rt, path)?;
+    file.write_all_at(b"last", 20_000)?;
+    let source = StoreFile::open(&rt, path, false, 4095)?;
+    fs::remove_file(&rt, path)?;
+    let mut bytes = [0; 4];
+    expect!(&rt; source.read_exact_at(&mut bytes, 4092).is_ok());
+    expect!(&rt; source.read_exact_at(&mut bytes, 4093).is_err());
     Ok(())
 }
 

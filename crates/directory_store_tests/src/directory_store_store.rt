@@ -365,8 +365,9 @@ fn a_store_is_refreshed_for_other_loose_objects(rt: HostRuntime) -> Result<(), F
 
 // Which openings fail: the one of the look for other loose objects, after which the store is opened
 // again, and one of each kind while it is opened: of the directory of packs, of a fan-out
-// directory, of the directory of packs again, and of a pack index, also as the only open file.
-const FAILING: [u8; 4] = [0b11, 0b101, 0b1001, 0b11_0001];
+// directory, of the directory of packs again, and of a pack index, also as one of few open files
+// and as the only one.
+const FAILING: [u8; 4] = [0b11, 0b101, 0b1001, 0b111_0001];
 
 // After a refresh that failed the next one finds the packs.
 fn expect_refreshed_after_failures<R: Files<File = File> + AllocGlobal + Clone + Drop>(

@@ -15,8 +15,8 @@ use pack_index::Bucket;
 use std::alloc::{AllocError, Allocator};
 use std::marker::Model;
 
-// A single look-up reads all ids of a pack index with a first byte if they are at most this many,
-// and does not search for fewer.
+// Several look-ups read all ids of a pack index with a first byte if they are at most this many,
+// and do not search them. A single one always searches ids that were found in order before.
 const FEW_IDS: usize = 32;
 
 /// A cursor over a store. It holds a part of the store's ids: all with one first byte, or some of
@@ -89,7 +89,11 @@ impl<'s, S: Store, A: Allocator + Copy> Parts<'s, S, A> {
         Parts {
             alloc,
             store,
-            few: FEW_IDS * (1 + count / 256),
+            few: if count > 1 {
+                FEW_IDS * (1 + count / 256)
+            } else {
+                0
+            },
             part: None,
             front: None,
         }
@@ -303,10 +307,14 @@ fn prefix_to_read<S: Store>(store: &S, prefix: &Prefix, few: usize) -> Prefix
         return *prefix;
     }
     let byte = prefix.first_byte();
+    // All are asked, even after one that reads a part: what the search needs of each of them is
+    // then in the processor's cache, which loads it for several at once here.
+    let mut reads_part = false;
     for index in store.indexes() {
-        if index.reads_part(byte, few) {
-            return *prefix;
-        }
+        reads_part |= index.reads_part(byte, few);
+    }
+    if reads_part {
+        return *prefix;
     }
     two_digits(prefix.as_oid().kind(), byte)
 }
@@ -330,8 +338,8 @@ fn read_parts<S: Store, A: Allocator + Copy>(
 {
     // The contract of this call says how many digits the prefix has at most.
     let _hex_len = prefix.hex_len();
-    let mut buckets = Vec::new(alloc);
     let packs = store.indexes().len();
+    let mut buckets = Vec::with_capacity(alloc, packs)?;
     for at in 0..packs {
         match store.part(alloc, at, prefix, few) {
             Ok(bucket) => push(&mut buckets, bucket)?,

@@ -117,6 +117,9 @@ impl<A: Allocator> Bucket<A> {
         ensures kinds { OnOk result (All (λ id. id_kind id ≡ self.now.kind) ids.old.items
             → All (λ id. id_kind id ≡ self.now.kind) ids.new.items) }
     {
+        if self.table.is_empty() {
+            return Ok(());
+        }
         let (table, kind, near) = (&self.table, self.kind, &self.near);
         let is_sorted = self.is_sorted;
         match kind {

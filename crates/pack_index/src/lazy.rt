@@ -138,9 +138,9 @@ impl<S: ReadAt + Drop> LazyFile<S> {
     /// the prefix are among them. The prefix has 2 digits or more, and at most as many as the ids.
     ///
     /// At first these are all ids with the first byte. Once they were found sorted, and if they are
-    /// more than `few`, some of them are compared with the prefix, and only some 32 are read. If
-    /// the fan-out table is right, as in each pack index, no id that begins with the prefix is
-    /// missing. The errors are `Read`, `Memory` and `WrongCount`.
+    /// more than `few`, some of them are compared with the prefix, and only those that begin with
+    /// it are read, and a few beside them. If the fan-out table is right, as in each pack index, no
+    /// id that begins with the prefix is missing. The errors are `Read`, `Memory` and `WrongCount`.
     pub fn part<A: Allocator>(
         &mut self,
         alloc: A,
@@ -286,6 +286,9 @@ impl<S: ReadAt + Drop> LazyFile<S> {
         // The contracts of these calls say how many names there are, and of which kind.
         let _count = self.num_objects();
         let kind = self.object_hash();
+        if run.start == run.end {
+            return Ok(Bucket::new(Vec::new(alloc), kind, run.start));
+        }
         let table = self.read_names(alloc, run)?;
         if !have_first_byte(&table, kind, byte) {
             return Err(LazyError::WrongCount(byte));

@@ -12,18 +12,15 @@ use std::cmp::Ordering;
 use std::io;
 use streams::ReadAt;
 
-// A part of at most so many ids is not narrowed further.
-const FEW_IDS: usize = 32;
+// A part is narrowed further on a side of the ids that begin with the prefix only if it has more
+// ids than this there.
+const FEW_IDS: usize = 4;
 
-// At most so many ids are compared.
-const MAX_TURNS: usize = 64;
+// At most this many ids are compared.
+const MAX_TURNS: usize = 128;
 
-// How many bytes are between an end of a window and its middle at first. Its ids are in 4096 bytes,
-// which a file that stays open reads at once.
-const HALF_WINDOW: usize = 1920;
-
-/// A part of a run that has all ids of it that begin with a prefix, if the run is sorted. It has
-/// few others if ids are spread evenly.
+/// A part of a run that has all ids of it that begin with a prefix, if the run is sorted. It has no
+/// others if none begins with it, and otherwise a few, if so many comparisons suffice.
 pub(crate) fn narrowed<S: ReadAt>(
     source: &S,
     kind: Kind,
@@ -43,13 +40,17 @@ pub(crate) fn narrowed<S: ReadAt>(
     ensures err { OnErr result ((bytes : List ℕ) → S.content source.now ≡ Some bytes
         → IsTrue (S.can_fail source.now)) }
 {
-    let mut window = Window::around(kind, prefix, &run);
+    let mut positions = Positions::around(prefix, &run);
     let mut part = run;
     for _turn in 0..MAX_TURNS {
-        let Some(at) = window.next(&part) else {
+        let Some(at) = positions.next(&part) else {
             break;
         };
+        let len = part.end - part.start;
         part = cut(source, kind, prefix, part, at)?;
+        if part.end - part.start == len {
+            positions.found(at);
+        }
     }
     Ok(part)
 }
@@ -111,58 +112,80 @@ fn place_at<S: ReadAt>(source: &S, kind: Kind, prefix: &Prefix, at: usize) -> io
     }
 }
 
-// Positions around the one where an id is expected. An end is compared while the id may be outside
-// of it, each time twice as far away.
+// Which positions of a run are compared: first the one where the prefix is expected, then those
+// before or after it, each time twice as far away as before, and then the middle of what is left.
 #[derive(Drop)]
-struct Window {
-    expected: usize,
+struct Positions {
+    // The next positions before and after the expected one, and how far the next step goes.
     low: usize,
     high: usize,
-    // The last middle of a part that was compared.
-    middle: Option<usize>,
+    step: usize,
+    // The first and the last position at which an id was found that begins with the prefix.
+    found: Option<(usize, usize)>,
 }
 
-impl Window {
-    // That around the first id of a run that begins with a prefix, if the ids are spread evenly.
-    fn around(kind: Kind, prefix: &Prefix, run: &Run) -> Window {
-        let far = HALF_WINDOW / kind.len_in_bytes();
-        let before = count_before(prefix, run.end.saturating_sub(run.start));
-        let expected = run.start.saturating_add(before);
-        Window {
-            expected,
-            low: expected.saturating_sub(far),
-            high: expected.saturating_add(far),
-            middle: None,
+impl Positions {
+    // Those around the position that the prefix has if the ids of the run are spread evenly. It is
+    // then some half of the square root of their number away, which is the first step.
+    fn around(prefix: &Prefix, run: &Run) -> Positions {
+        let count = run.end.saturating_sub(run.start);
+        let expected = run.start.saturating_add(count_before(prefix, count));
+        let root = 1 << (count.max(1).ilog2() / 2);
+        let step = (root / 2).max(1);
+        Positions {
+            low: expected,
+            high: expected.saturating_add(step),
+            step,
+            found: None,
         }
     }
 
-    // The next position of a part to compare: an end of the window, or else the part's middle.
-    // `None` if the part has few ids, or the id in its middle begins with the prefix.
+    // Notes that the id at a position begins with the prefix.
+    fn found(&mut self, at: usize) {
+        let (first, last) = self.found.unwrap_or((at, at));
+        self.found = Some((first.min(at), last.max(at)));
+    }
+
+    // The next position of a part to compare. `None` if the part has no ids, or if ids were found
+    // that begin with the prefix and the part has few others on each side of them.
     fn next(&mut self, part: &Run) -> Option<usize>
         requires { part.now.start ≤ part.now.end }
         ensures { IfSome result (λ at. (part.now.start ≤ at) × (at < part.now.end)) }
     {
-        let len = part.end - part.start;
-        if len <= FEW_IDS {
+        if let Some((first, last)) = self.found {
+            return beside(part, first, last);
+        }
+        if part.start == part.end {
             return None;
         }
-        if part.start < self.low && self.low < part.end {
-            let at = self.low;
-            self.low = at.saturating_sub(self.expected.saturating_sub(at));
-            return Some(at);
+        let (low, high) = (self.low, self.high);
+        if part.start <= low && low < part.end {
+            self.low = low.saturating_sub(self.step);
+            self.step = self.step.saturating_mul(2);
+            return Some(low);
         }
-        if part.start <= self.high && self.high < part.end {
-            let at = self.high;
-            self.high = at.saturating_add(at.saturating_sub(self.expected));
-            return Some(at);
+        if part.start <= high && high < part.end {
+            self.high = high.saturating_add(self.step);
+            self.step = self.step.saturating_mul(2);
+            return Some(high);
         }
-        let middle = part.start + len / 2;
-        if self.middle == Some(middle) {
-            return None;
-        }
-        self.middle = Some(middle);
-        Some(middle)
+        Some(part.start + (part.end - part.start) / 2)
     }
+}
+
+// The middle of what a part has before the first or after the last of some positions, if that is
+// more than a few ids.
+fn beside(part: &Run, first: usize, last: usize) -> Option<usize>
+    requires { part.now.start ≤ part.now.end }
+    ensures { IfSome result (λ at. (part.now.start ≤ at) × (at < part.now.end)) }
+{
+    if first <= part.end && first.saturating_sub(part.start) > FEW_IDS {
+        return Some(part.start + (first - part.start) / 2);
+    }
+    if part.start <= last && part.end.saturating_sub(last) > FEW_IDS + 1 {
+        return Some(last + 1 + (part.end - last - 1) / 2);
+    }
+    None
 }
 
 // How many of some ids with a first byte come before a prefix with it, if they are spread evenly.

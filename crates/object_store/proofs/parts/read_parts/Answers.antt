@@ -11,7 +11,7 @@ any_of : Kind → LazyIndex
 any_of kind = record { kind = kind; count = 0; content = None; path = []; can_fail = true }
 
 pub loop-at-init : goal.loop-at-init
-loop-at-init g c = (refl, subst (AllZip (IsPart c.args.prefix.now.digits) []) (sym c.new-buckets.ensures.items) tt, λ k d low. absurd (omega arith))
+loop-at-init g c = (refl, subst (AllZip (IsPart c.args.prefix.now.digits) []) (sym c.in_ok-buckets.ensures.items) tt, λ k d low. absurd (omega arith))
 
 pub loop-at-preserved : goal.loop-at-preserved
 loop-at-preserved g c =

@@ -24,9 +24,9 @@ module _ (g : Over) (c : After-have_first_byte g) where
   as_many_names = length-digests_in c.args.self.now.kind c.in_ok-table.table.items ∙ ap (λ n. n / byte_len_of c.args.self.now.kind) c.in_ok-table.ensures.len
       ∙ as_many c.args.self.now.kind (c.args.run.now.end - c.args.run.now.start)
 
-pub new-requires : goal.new-requires
-new-requires g c =
-    let here = (goal.at.new-requires g c).After-have_first_byte in
+pub new-requires-2 : goal.new-requires-2
+new-requires-2 g c =
+    let here = (goal.at.new-requires-2 g c).After-have_first_byte in
     let table = c.in_ok-table.table.items in
     let kind = c.args.self.now.kind in
     let len : length table ≡ byte_len_of kind * length (digests_in kind table) = rw (as_many_names g here) c.in_ok-table.ensures.len in
@@ -51,4 +51,4 @@ returns-clause-ids g c =
       first = subst (HaveFirstByte c.args.byte) (read g here) (c.have_first_byte.ensures.0 c.if-not-have_first_byte.false);
       known = λ bytes known. sym (found g here bytes known);
     } in
-    subst (AreBetween c.args.self.now c.args.byte c.args.run.now.start c.args.run.now.end) (ap made (sym c.object_hash-kind.ensures) ∙ sym c.new.ensures) is
+    subst (AreBetween c.args.self.now c.args.byte c.args.run.now.start c.args.run.now.end) (ap made (sym c.object_hash-kind.ensures) ∙ sym c.new-2.ensures) is
