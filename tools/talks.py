@@ -164,15 +164,22 @@ def mended_later(program, room):
 
 
 def few_files(program, room):
-    """Questions to a packtool that may open as many files as it keeps open, and none more."""
+    """Questions to a packtool that may open as many files as there are packs, and none more; or fewer, so that 64 stay open, or none, and
+    the others are opened again for ids that are far from the beginning of their indexes."""
     write(room / "objects" / "00" / "none")
+    ids = list(sorted_ids(1000, [20]))
     for number in range(64):
-        add_pack(room / "objects", f"{number:02}", plain_index([made.BOTH]))
-    with talk(program, room, "find", around=("prlimit", "--nofile=67")) as child:
-        wrong = asked_twice(child, b"4b\n", f"4b {made.BOTH}\n".encode())
-        wrong = wrong or asked_twice(child, b"00\n", b"00 missing\n")
-        wrong = wrong or asked_twice(child, b"4b\n", f"4b {made.BOTH}\n".encode())
-    yield "64 packs, and 67 open files", wrong
+        add_pack(room / "objects", f"{number:02}", plain_index(ids))
+    for packs, files, stay_open in (64, 67, 64), (70, 70, 64), (70, 64, 0):
+        for number in range(64, packs):
+            add_pack(room / "objects", f"{number:02}", plain_index(ids))
+        with talk(program, room, "find", "--one", around=("prlimit", f"--nofile={files}")) as child:
+            asked = [ids[-1], "0000", ids[0], ids[-1]]
+            wrong = [asked_twice(child, f"{id}\n".encode(), f"{id if id in ids else f'{id} missing'}\n".encode()) for id in asked]
+            # (and its input and outputs)
+            are_open = len(os.listdir(f"/proc/{child.pid}/fd")) - 3
+        wrong = next(filter(None, wrong), None) or (f"{are_open} stay open" if are_open != stay_open else None)
+        yield f"{packs} packs, and {files} open files", wrong
 
 
 def out_of_order(program, room):

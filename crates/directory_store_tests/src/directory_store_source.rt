@@ -64,6 +64,33 @@ fn few_bytes_are_kept_of_a_closed_file(rt: HostRuntime) -> Result<(), Fail> {
     Ok(())
 }
 
+// A short read keeps as many bytes before as after those that are asked for, also at the ends of a
+// file. A short read of a part that was cut off is an error, and what is left can be read.
+#[test]
+fn short_reads_keep_what_is_around(rt: HostRuntime) -> Result<(), Fail> {
+    let path = "short_reads_keep_what_is_around";
+    for stays_open in [true, false] {
+        let file = File::create_new(&rt, path)?;
+        file.write_all_at(b"last", 40_000)?;
+        let source = StoreFile::open(&rt, path, stays_open, 0)?;
+        for &(at, first, end) in &[
+            (20_000, 17_954, 22_050),
+            (0, 0, 4096),
+            (40_000, 37_954, 40_004),
+        ] {
+            let mut bytes = [0; 4];
+            source.read_exact_at(&mut bytes, at)?;
+            file.set_len(0)?;
+            expect!(&rt; source.read_exact_at(&mut bytes, first).is_ok(), at);
+            expect!(&rt; source.read_exact_at(&mut bytes, end - 4).is_ok(), at);
+            expect!(&rt; source.read_exact_at(&mut bytes, end - 3).is_err(), at);
+            file.write_all_at(b"last", 40_000)?;
+        }
+        fs::remove_file(&rt, path)?;
+    }
+    Ok(())
+}
+
 // A file that may be kept whole is so after a few reads, and then it may be gone.
 #[test]
 fn files_are_kept_whole(rt: HostRuntime) -> Result<(), Fail> {
