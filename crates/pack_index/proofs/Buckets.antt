@@ -1,11 +1,12 @@
 -- The names of a bucket, by its bytes.
 use Rattle.gix_hash.proofs.Std.{◌≡◌, Bool, true, ℕ, zero, suc, ◌+◌, ◌-◌, ◌*◌, ◌/◌, ◌<◌, ◌≤◌, List, [], ◌∷◌, length, get_or, slice_index, take, drop, sym, ap, ◌∙◌, subst, arith, ◌↔◌, slice_range, IsTrue, All, count_by, mul-le-mul_left, first_chunks, take-take, drop-drop, drop-take, get_or-drop, get_or-map, get_or-take, length-drop, length-map, length-take, length-take-le, same_lists, All-map, filter_passes}
-use Rattle.id_lookup.specs.Words.{Kind, byte_len_of, digits_of, has_first_byte, is_below, is_up_to, part_of}
+use Rattle.id_lookup.specs.Words.{Kind, Sha1, Sha256, byte_len_of, digits_of, has_first_byte, is_below, is_up_to, part_of}
+use Rattle.id_digits.proofs.ByteDigits.{take-digits_of}
 use Rattle.id_lookup.proofs.FilterCounted.{filter_counted}
 use Rattle.id_lookup.proofs.FirstByteCounts.{count_by-below_0, count_by-up_to, up_to_step}
 use Rattle.id_lookup.proofs.PartsInOrder.{below-next, part-run}
 use Rattle.pack_index.specs.Format.{Each, HasCount, HasTables, IsPackIndex, crc_table_start, digests_in, names_in, num_objects}
-use Rattle.pack_index.specs.Lazy.{HasBucket, HaveFirstByte, IsBucketFault, IsRunFault, IsReadOrMemory, bucket_end, bucket_start, counted_with}
+use Rattle.pack_index.specs.Lazy.{HasBucket, HaveFirstByte, HaveIds, IsBucketFault, IsRunFault, IsReadOrMemory, bucket_end, bucket_start, counted_with}
 use Rattle.pack_index.specs.declared.lazy_error.LazyError.{LazyError}
 use Rattle.pack_index.specs.declared.lazy_error.LazyError.TheVariants.{Read, Memory, WrongCount}
 use Rattle.pack_index.proofs.Counted.{as_many, digest_digits, length-digests_in, length-names_in, length-table}
@@ -39,6 +40,16 @@ digest_in kind from count k bytes part d is long low =
     digest_digits kind part k d (omega (arith, all, low)) ∙ ap (λ (xs : List ℕ). digits_of (take n (drop (n * k) xs))) is
     ∙ ap digits_of (part_of_part n (n * k) (n * count) from bytes (omega (arith, mul-le-mul_left n next)))
 
+-- an id is in the bytes of its index
+pub id_fits : (kind : Kind) (bytes : List ℕ) (at : ℕ) → HaveIds kind bytes (at + 1) → 1032 + byte_len_of kind * at + byte_len_of kind ≤ length bytes
+id_fits Sha1 bytes at ids = omega (arith, ids.tables.fits, ids.inside)
+id_fits Sha256 bytes at ids = omega (arith, ids.tables.fits, ids.inside)
+
+-- it has eight bytes and more
+pub eight : (kind : Kind) → 8 ≤ byte_len_of kind
+eight Sha1 = omega arith
+eight Sha256 = omega arith
+
 module _ (kind : Kind) (bytes : List ℕ) (tables : HasTables kind bytes) where
   -- the id at a position, by the bytes from there on
   name_is : (at : ℕ) (d : List ℕ) → at < num_objects bytes
@@ -53,6 +64,16 @@ module _ (kind : Kind) (bytes : List ℕ) (tables : HasTables kind bytes) where
       → digits_of id ≡ get_or (names_in kind bytes) at []
   id_at id at low read long =
       ap digits_of (read.same ∙ ap (λ m. take m (drop (1032 + byte_len_of kind * at) bytes)) (omega (arith, long))) ∙ sym (name_is at [] low)
+
+  -- and its first digits are those of the first bytes there
+  pub id_begins : (first : List ℕ) (at : ℕ) → at < num_objects bytes → IsReadAt bytes (1032 + byte_len_of kind * at) first → length first ≡ 8
+      → digits_of first ≡ take 16 (get_or (names_in kind bytes) at [])
+  id_begins first at low read long =
+      let n = byte_len_of kind in
+      let there = drop (1032 + n * at) bytes in
+      let count : 1032 + n * at + length first - (1032 + n * at) ≡ 8 = omega (arith, long) in
+      let front = read.same ∙ ap (λ m. take m there) count ∙ sym (take-take 8 n there (eight kind)) in
+      ap digits_of front ∙ sym (take-digits_of 8 (take n there)) ∙ ap (take 16) (sym (name_is at [] low))
 
   -- and the ids of a run are the digests that were read of it
   pub ids_between : (found : List ℕ) (start end : ℕ) → start ≤ end → end ≤ num_objects bytes → IsReadAt bytes (1032 + byte_len_of kind * start) found

@@ -2,6 +2,7 @@
 pub mod Buckets
 pub mod Counted
 mod Cuts
+mod Fronts
 mod Heads
 mod Looked
 pub mod LookedUp

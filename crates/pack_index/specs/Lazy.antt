@@ -1,9 +1,11 @@
 -- Pack indexes that are read at positions, and not whole.
-use Rattle.std.specs.Prelude.{◌≡◌, ◌≢◌, ℕ, zero, suc, ◌+◌, ◌*◌, ◌<◌, ◌≤◌, Bool, true, IsTrue, Option, Some, List, [], All, length, nat_eq, slice_index_or, slice_range}
+use Rattle.std.specs.Prelude.{◌≡◌, ◌≢◌, ℕ, zero, suc, ◌+◌, ◌-◌, ◌*◌, ◌^◌, ◌<◌, ◌≤◌, Bool, true, IsTrue, Option, Some, List, [], All, length, nat_eq, slice_index_or, slice_range}
 use Rattle.std.specs.List.{starts_with}
+use Rattle.id_digits.specs.Digits.{word}
 use Rattle.id_lookup.specs.Words.{IsSortedIds, Kind, first_byte_of, has_first_byte, matches}
 use Rattle.id_lookup.specs.declared.search.Run.{Run}
 use Rattle.pack_index.specs.Format.{Each, HasCount, HasHead, HasOffset, HasTables, IsFirstNot, IsHeadFault, names_in, num_objects, word_at}
+use Rattle.pack_index.specs.declared.front.Front.{Front}
 use Rattle.pack_index.specs.declared.lazy_error.LazyError.{LazyError}
 use Rattle.pack_index.specs.declared.lazy_error.LazyError.TheVariants.{Read, Memory, Head, CountsFall, WrongCount, NoOffset}
 
@@ -99,6 +101,13 @@ pub record IsPartOf (index : LazyIndex) (digits : List ℕ) (part : BucketNames)
   pub inside : part.start + length part.names ≤ index.count
   pub first : HaveFirstByte (first_byte_of digits) part.names
   pub known : IfKnown (λ bytes. AreAmong index.kind bytes digits part) index
+
+-- at most 16 digits: the number that they write, with zeros after them, and ones for their bits in it
+pub record AreFront (digits : List ℕ) (front : Front) : Type 0 where
+  pub in_range : All (λ d. d < 16) digits
+  pub most : length digits ≤ 16
+  pub number : front.word ≡ word 16 digits
+  pub mask : front.mask ≡ 2 ^ 64 - 2 ^ (4 * (16 - length digits))
 
 -- the bytes have the tables of a pack index, and as many ids or more
 pub record HaveIds (kind : Kind) (bytes : List ℕ) (count : ℕ) : Type 0 where

@@ -10,6 +10,7 @@
 mod bucket;
 mod checks;
 mod error;
+mod front;
 mod index_file;
 mod lazy;
 mod lazy_error;

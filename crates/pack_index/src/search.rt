@@ -1,10 +1,11 @@
 //! A search among the ids of a pack index that reads only those that it compares.
 
-ghost use Rattle.std.specs.Prelude.{◌≡◌, ◌+◌, ◌^◌, ◌<◌, ◌≤◌, ℕ, List, Some, [], IfOk, IfSome, IsTrue, OnErr, length, slice_index_or};
-ghost use Rattle.id_lookup.specs.Words.{hex_len_of, place};
-ghost use Rattle.pack_index.specs.Format.{names_in};
-ghost use Rattle.pack_index.specs.Lazy.{AreWithin, HaveIds};
+ghost use Rattle.std.specs.Prelude.{◌≡◌, ◌+◌, ◌*◌, ◌^◌, ◌<◌, ◌≤◌, ℕ, List, Some, [], IfOk, IfSome, IsTrue, OnErr, length, slice_index_or, take};
+ghost use Rattle.id_lookup.specs.Words.{byte_len_of, hex_len_of, place};
+ghost use Rattle.pack_index.specs.Format.{names_in, names_start};
+ghost use Rattle.pack_index.specs.Lazy.{AreFront, AreWithin, HaveIds};
 
+use crate::front::Front;
 use crate::words::NAMES_START;
 use gix_hash::{Kind, Prefix};
 use id_lookup::{Id, Run};
@@ -40,14 +41,15 @@ pub(crate) fn narrowed<S: ReadAt>(
     ensures err { OnErr result ((bytes : List ℕ) → S.content source.now ≡ Some bytes
         → IsTrue (S.can_fail source.now)) }
 {
-    let mut positions = Positions::around(prefix, &run);
+    let front = Front::of(prefix);
+    let mut positions = Positions::around(&front, &run);
     let mut part = run;
     for _turn in 0..MAX_TURNS {
         let Some(at) = positions.next(&part) else {
             break;
         };
         let len = part.end - part.start;
-        part = cut(source, kind, prefix, part, at)?;
+        part = cut(source, kind, prefix, &front, part, at)?;
         if part.end - part.start == len {
             positions.found(at);
         }
@@ -57,7 +59,15 @@ pub(crate) fn narrowed<S: ReadAt>(
 
 // A part of a sorted run without the ids on that side of a position on which none begins with a
 // prefix.
-fn cut<S: ReadAt>(source: &S, kind: Kind, prefix: &Prefix, part: Run, at: usize) -> io::Result<Run>
+fn cut<S: ReadAt>(
+    source: &S,
+    kind: Kind,
+    prefix: &Prefix,
+    front: &Front,
+    part: Run,
+    at: usize,
+) -> io::Result<Run>
+    requires front { AreFront (take 16 prefix.now.digits) front.now }
     requires fits { length prefix.now.digits ≤ hex_len_of kind }
     requires small { part.end < 2 ^ 32 }
     requires above { part.start ≤ at }
@@ -74,7 +84,7 @@ fn cut<S: ReadAt>(source: &S, kind: Kind, prefix: &Prefix, part: Run, at: usize)
     ensures err { OnErr result ((bytes : List ℕ) → S.content source.now ≡ Some bytes
         → IsTrue (S.can_fail source.now)) }
 {
-    match place_at(source, kind, prefix, at)? {
+    match place_at(source, kind, prefix, front, at)? {
         Ordering::Greater => Ok(Run {
             start: at + 1,
             end: part.end,
@@ -87,8 +97,16 @@ fn cut<S: ReadAt>(source: &S, kind: Kind, prefix: &Prefix, part: Run, at: usize)
     }
 }
 
-// How a prefix compares with the id at a position.
-fn place_at<S: ReadAt>(source: &S, kind: Kind, prefix: &Prefix, at: usize) -> io::Result<Ordering>
+// How a prefix compares with the id at a position. The whole id is read only if its first 8 bytes
+// do not decide.
+fn place_at<S: ReadAt>(
+    source: &S,
+    kind: Kind,
+    prefix: &Prefix,
+    front: &Front,
+    at: usize,
+) -> io::Result<Ordering>
+    requires front { AreFront (take 16 prefix.now.digits) front.now }
     requires fits { length prefix.now.digits ≤ hex_len_of kind }
     requires small { at < 2 ^ 32 }
     requires known { (bytes : List ℕ) → S.content source.now ≡ Some bytes
@@ -98,17 +116,54 @@ fn place_at<S: ReadAt>(source: &S, kind: Kind, prefix: &Prefix, at: usize) -> io
     ensures err { OnErr result ((bytes : List ℕ) → S.content source.now ≡ Some bytes
         → IsTrue (S.can_fail source.now)) }
 {
+    let mut first = [0; 8];
+    source.read_exact_at(&mut first, name_start(kind, at) as u64)?;
+    match front.place(&first) {
+        Ordering::Equal => whole_place_at(source, kind, prefix, at),
+        order => Ok(order),
+    }
+}
+
+// How a prefix compares with the id at a position, all of which is read.
+#[inline(never)]
+fn whole_place_at<S: ReadAt>(
+    source: &S,
+    kind: Kind,
+    prefix: &Prefix,
+    at: usize,
+) -> io::Result<Ordering>
+    requires fits { length prefix.now.digits ≤ hex_len_of kind }
+    requires small { at < 2 ^ 32 }
+    requires known { (bytes : List ℕ) → S.content source.now ≡ Some bytes
+        → HaveIds kind bytes (at + 1) }
+    ensures place { IfOk result (λ o. (bytes : List ℕ) → S.content source.now ≡ Some bytes
+        → o ≡ place prefix.now.digits (slice_index_or (names_in kind bytes) at [])) }
+    ensures err { OnErr result ((bytes : List ℕ) → S.content source.now ≡ Some bytes
+        → IsTrue (S.can_fail source.now)) }
+{
+    let start = name_start(kind, at) as u64;
     match kind {
         Kind::Sha1 => {
             let mut id = [0; 20];
-            source.read_exact_at(&mut id, (NAMES_START + 20 * at) as u64)?;
+            source.read_exact_at(&mut id, start)?;
             Ok(prefix.cmp_oid(Id::as_oid(&id)))
         }
         Kind::Sha256 => {
             let mut id = [0; 32];
-            source.read_exact_at(&mut id, (NAMES_START + 32 * at) as u64)?;
+            source.read_exact_at(&mut id, start)?;
             Ok(prefix.cmp_oid(Id::as_oid(&id)))
         }
+    }
+}
+
+// Where the id at a position begins, in bytes from the start of the index.
+fn name_start(kind: Kind, at: usize) -> usize
+    requires { at < 2 ^ 32 }
+    ensures { result ≡ names_start + byte_len_of kind * at }
+{
+    match kind {
+        Kind::Sha1 => NAMES_START + 20 * at,
+        Kind::Sha256 => NAMES_START + 32 * at,
     }
 }
 
@@ -127,9 +182,9 @@ struct Positions {
 impl Positions {
     // Those around the position that the prefix has if the ids of the run are spread evenly. It is
     // then some half of the square root of their number away, which is the first step.
-    fn around(prefix: &Prefix, run: &Run) -> Positions {
+    fn around(front: &Front, run: &Run) -> Positions {
         let count = run.end.saturating_sub(run.start);
-        let expected = run.start.saturating_add(count_before(prefix, count));
+        let expected = run.start.saturating_add(front.count_before(count));
         let root = 1 << (count.max(1).ilog2() / 2);
         let step = (root / 2).max(1);
         Positions {
@@ -186,15 +241,4 @@ fn beside(part: &Run, first: usize, last: usize) -> Option<usize>
         return Some(last + 1 + (part.end - last - 1) / 2);
     }
     None
-}
-
-// How many of some ids with a first byte come before a prefix with it, if they are spread evenly.
-fn count_before(prefix: &Prefix, count: usize) -> usize {
-    let key = match prefix.as_oid().as_bytes().first_chunk() {
-        Some(bytes) => u64::from_be_bytes(*bytes),
-        None => 0,
-    };
-    // The four bytes after the first, as a fraction of 2^32.
-    let fraction = key >> 24 & 0xffff_ffff;
-    ((count as u64).wrapping_mul(fraction) >> 32) as usize
 }

@@ -1,35 +1,29 @@
-use Rattle.gix_hash.proofs.Std.{◌∙◌, ◌+◌, ap, arith, subst, err_from_is_err_and}
-use Rattle.id_lookup.specs.Words.{Kind, Sha1, Sha256, place}
-use Rattle.pack_index.specs.Lazy.{HaveIds}
-use Rattle.pack_index.proofs.Buckets.{id_at}
+use Rattle.gix_hash.proofs.Std.{◌+◌, ◌*◌, ◌∙◌, ℕ, [], get_or, take, ap, arith, subst, err_from_is_err_and}
+use Rattle.id_lookup.specs.Words.{byte_len_of, place}
+use Rattle.streams.specs.Streams.{IsReadAt}
+use Rattle.pack_index.specs.Format.{names_in}
+use Rattle.pack_index.proofs.Buckets.{eight, id_begins, id_fits}
+use Rattle.pack_index.proofs.Fronts.{place-first}
 use Rattle.pack_index.proofs.search.place_at.Goals as goal
 
-pub returns-in_ok-read_exact_at-in-Sha1-clause-place : goal.returns-in_ok-read_exact_at-in-Sha1-clause-place
-returns-in_ok-read_exact_at-in-Sha1-clause-place g c = λ bytes is.
-    let ids : HaveIds Sha1 bytes (c.args.at + 1) = subst (λ (k : Kind). HaveIds k bytes (c.args.at + 1)) c.in-Sha1.is (c.requires.known bytes is) in
-    rw c.in-Sha1.is
-    (c.cmp_oid.ensures ∙ ap (place c.args.prefix.now.digits) (c.as_oid.ensures.digits
-    ∙ id_at Sha1 bytes ids.tables c.read_exact_at.new.buf c.args.at (omega (arith, ids.inside)) (c.in_ok-read_exact_at-in-Sha1.ensures.bytes bytes is)
-    (omega (arith, c.read_exact_at.auto.buf))))
+pub returns-in_default : goal.returns-in_default
+returns-in_default g c = record {
+  place = λ bytes is.
+      let kind = c.args.kind in
+      let digits = c.args.prefix.now.digits in
+      let first = c.read_exact_at.new.buf in
+      let ids = c.requires.known bytes is in
+      let read : IsReadAt bytes (1032 + byte_len_of kind * c.args.at) first =
+      subst (λ (from : ℕ). IsReadAt bytes from first) c.name_start.ensures (c.in_ok-read_exact_at.ensures.bytes bytes is) in
+      let begins = id_begins kind bytes ids.tables first c.args.at (omega (arith, ids.inside)) read (omega (arith, c.read_exact_at.auto.buf)) in
+      place-first digits (get_or (names_in kind bytes) c.args.at []) c.place.result
+      (c.place.ensures (take 16 digits) c.requires.front ∙ ap (place (take 16 digits)) begins) c.in_default.not-Equal;
+  err = tt;
+}
 
-pub returns-in_ok-read_exact_at-in-Sha256-clause-place : goal.returns-in_ok-read_exact_at-in-Sha256-clause-place
-returns-in_ok-read_exact_at-in-Sha256-clause-place g c = λ bytes is.
-    let ids : HaveIds Sha256 bytes (c.args.at + 1) = subst (λ (k : Kind). HaveIds k bytes (c.args.at + 1)) c.in-Sha256.is (c.requires.known bytes is) in
-    rw c.in-Sha256.is
-    (c.cmp_oid-in-Sha256.ensures ∙ ap (place c.args.prefix.now.digits) (c.as_oid-in-Sha256.ensures.digits
-    ∙ id_at Sha256 bytes ids.tables c.read_exact_at-in-Sha256.new.buf c.args.at (omega (arith, ids.inside)) (c.in_ok-read_exact_at-in-Sha256.ensures.bytes bytes is)
-    (omega (arith, c.read_exact_at-in-Sha256.auto.buf))))
-
-pub returns-in_err-read_exact_at-in-Sha1-clause-err : goal.returns-in_err-read_exact_at-in-Sha1-clause-err
-returns-in_err-read_exact_at-in-Sha1-clause-err g c =
+pub returns-in_err-read_exact_at-clause-err : goal.returns-in_err-read_exact_at-clause-err
+returns-in_err-read_exact_at-clause-err g c =
     let failed = err_from_is_err_and c.from_residual.result c.from_residual.ensures.1 in
     rw (failed.1) (λ bytes is.
-    let ids : HaveIds Sha1 bytes (c.args.at + 1) = subst (λ (k : Kind). HaveIds k bytes (c.args.at + 1)) c.in-Sha1.is (c.requires.known bytes is) in
-    c.in_err-read_exact_at-in-Sha1.ensures.err bytes is (omega (arith, ids.tables.fits, ids.inside, c.read_exact_at.auto.buf)))
-
-pub returns-in_err-read_exact_at-in-Sha256-clause-err : goal.returns-in_err-read_exact_at-in-Sha256-clause-err
-returns-in_err-read_exact_at-in-Sha256-clause-err g c =
-    let failed = err_from_is_err_and c.from_residual-in_err-read_exact_at-in-Sha256.result c.from_residual-in_err-read_exact_at-in-Sha256.ensures.1 in
-    rw (failed.1) (λ bytes is.
-    let ids : HaveIds Sha256 bytes (c.args.at + 1) = subst (λ (k : Kind). HaveIds k bytes (c.args.at + 1)) c.in-Sha256.is (c.requires.known bytes is) in
-    c.in_err-read_exact_at-in-Sha256.ensures.err bytes is (omega (arith, ids.tables.fits, ids.inside, c.read_exact_at-in-Sha256.auto.buf)))
+    let fits = id_fits c.args.kind bytes c.args.at (c.requires.known bytes is) in
+    c.in_err-read_exact_at.ensures.err bytes is (omega (arith, eight c.args.kind, fits, c.name_start.ensures, c.read_exact_at.auto.buf)))
