@@ -4,11 +4,11 @@ use Rattle.std.specs.Result.{result_ok}
 use Rattle.gix_hash.specs.Words.{first_byte_of}
 use Rattle.gix_hash.specs.declared.Kind.{Kind}
 use Rattle.object_store.specs.Stores.{Holds, StoreView}
-use Rattle.pack_index.specs.Format.{IsPackIndex, names_in}
+use Rattle.pack_index.specs.Format.{HasCounts, names_in}
 use Rattle.pack_index.specs.Lazy.{LazyIndex}
 use Rattle.repositories.specs.Answers.{Answers}
 use Rattle.directory_store.specs.Loose.{HasLoose, bytes_asked}
-use Rattle.directory_store.specs.Opened.{AreIndexFiles, AreObjects, HasIndex, HasObject}
+use Rattle.directory_store.specs.Opened.{AreObjects, HasIndex, HasObject, HaveCounts}
 use Rattle.directory_store.specs.Packs.{ArePacks, bytes_at, packs_of}
 use Rattle.directory_store.specs.Stores.{index_path}
 use Rattle.directory_store.specs.declared.loose.LooseIds.{LooseIds}
@@ -17,9 +17,9 @@ use Rattle.directory_store.proofs.Members.{flat_from, flat_has, map_from, map_ha
 use Rattle.directory_store.proofs.Packed.{index_from, index_has}
 
 module _ (at : Answers) (kind : Kind) where
-  -- the file of a pack index at a path is one
-  abbrev IsIndexFile : List ℕ → Type 0
-  IsIndexFile path = (bytes : List ℕ) × (at.bytes path ≡ Ok bytes) × IsPackIndex kind bytes
+  -- the fan-out table of the pack index at a path is right
+  abbrev IsCounted : List ℕ → Type 0
+  IsCounted path = (bytes : List ℕ) × (at.bytes path ≡ Ok bytes) × HasCounts kind bytes
 
   abbrev bytes_of : List ℕ → List ℕ
   bytes_of path = unwrap_or (bytes_at at path) []
@@ -27,26 +27,26 @@ module _ (at : Answers) (kind : Kind) where
   bytes_is : (path bytes : List ℕ) → at.bytes path ≡ Ok bytes → bytes_of path ≡ bytes
   bytes_is path bytes is = ap (λ answer. unwrap_or (result_ok answer) []) is
 
-  -- the bytes of such files are known, and they are pack indexes
-  contents_are : (paths : List (List ℕ)) → All IsIndexFile paths → map (bytes_at at) paths ≡ map Some (map bytes_of paths)
+  -- the bytes of such files are known, and their fan-out tables are right
+  contents_are : (paths : List (List ℕ)) → All IsCounted paths → map (bytes_at at) paths ≡ map Some (map bytes_of paths)
   contents_are [] are = refl
   contents_are (path ∷ paths) are =
-      let one = All-head IsIndexFile path paths are in
+      let one = All-head IsCounted path paths are in
       let content : bytes_at at path ≡ Some (bytes_of path) = ap result_ok one.1 ∙ ap Some (sym (bytes_is path one.0 one.1)) in
-      let rest = contents_are paths (All-tail IsIndexFile path paths are) in
+      let rest = contents_are paths (All-tail IsCounted path paths are) in
       λ i. content i ∷ rest i
 
-  are_ones : (paths : List (List ℕ)) → All IsIndexFile paths → All (IsPackIndex kind) (map bytes_of paths)
-  are_ones [] are = All-nil (IsPackIndex kind)
-  are_ones (path ∷ paths) are =
-      let one = All-head IsIndexFile path paths are in
-      All-cons (IsPackIndex kind) (bytes_of path) (map bytes_of paths) (subst (IsPackIndex kind) (sym (bytes_is path one.0 one.1)) one.2)
-      (are_ones paths (All-tail IsIndexFile path paths are))
+  are_all : (paths : List (List ℕ)) → All IsCounted paths → All (HasCounts kind) (map bytes_of paths)
+  are_all [] are = All-nil (HasCounts kind)
+  are_all (path ∷ paths) are =
+      let one = All-head IsCounted path paths are in
+      All-cons (HasCounts kind) (bytes_of path) (map bytes_of paths) (subst (HasCounts kind) (sym (bytes_is path one.0 one.1)) one.2)
+      (are_all paths (All-tail IsCounted path paths are))
 
 module _ (at : Answers) (which : LooseIds) (view : StoreView) (directories : List (List ℕ)) (packs : List PackPaths) (listed : ArePacks at (map packs_of directories) packs)
     (paths : view.paths ≡ map index_path packs) (contents : map (λ (pack : LazyIndex). pack.content) view.packs ≡ map (bytes_at at) view.paths)
     (loose : (digits : List ℕ) → Contains view.loose digits ↔ ((directory : List ℕ) × Contains directories directory × Contains (bytes_asked which) (first_byte_of digits) × HasLoose at view.kind directory digits))
-    (sound : AreIndexFiles at view.kind directories) where
+    (counted : HaveCounts at view.kind directories) where
   abbrev indexes : List (List ℕ)
   indexes = map (bytes_of at view.kind) view.paths
 
@@ -57,18 +57,18 @@ module _ (at : Answers) (which : LooseIds) (view : StoreView) (directories : Lis
   place_of : (path : List ℕ) → Contains view.paths path → (directory : List ℕ) × Contains directories directory × HasIndex at directory path
   place_of path has = index_from at directories packs listed path (subst (λ (l : List (List ℕ)). Contains l path) paths has)
 
-  all_sound : All (IsIndexFile at view.kind) view.paths
-  all_sound k d low =
+  all_counted : All (IsCounted at view.kind) view.paths
+  all_counted k d low =
       let path = get_or view.paths k d in
       let place = place_of path (Contains-get_or view.paths k d low) in
-      sound place.0 path place.1 place.2
+      counted place.0 path place.1 place.2
 
   packed_from : (id : List ℕ) → Contains packed id → (directory : List ℕ) × Contains directories directory × HasObject at view.kind which directory id
   packed_from id has =
       let bytes = flat_from (names_in view.kind) indexes id has in
       let path = map_from (bytes_of at view.kind) view.paths bytes.0 bytes.1 in
       let place = place_of path.0 path.1 in
-      let file = sound place.0 path.0 place.1 place.2 in
+      let file = counted place.0 path.0 place.1 place.2 in
       let same : bytes.0 ≡ file.0 = sym path.2 ∙ bytes_is at view.kind path.0 file.0 file.1 in
       (place.0, place.1, inl (path.0, file.0, place.2, file.1, subst (λ b. Contains (names_in view.kind b) id) same bytes.2))
 
@@ -81,8 +81,8 @@ module _ (at : Answers) (which : LooseIds) (view : StoreView) (directories : Lis
   pub are_held : (ids : List (List ℕ)) → AreObjects at view.kind which directories ids → Holds view ids
   are_held ids are = record {
     indexes = indexes;
-    known = contents ∙ contents_are at view.kind view.paths all_sound;
-    are_indexes = are_ones at view.kind view.paths all_sound;
+    known = contents ∙ contents_are at view.kind view.paths all_counted;
+    are_counted = are_all at view.kind view.paths all_counted;
     all = record {
       index = are.index;
       members = λ id. (

@@ -7,7 +7,7 @@ use Rattle.gix_hash.specs.Words.{first_byte_of}
 use Rattle.gix_hash.specs.declared.Kind.{Kind}
 use Rattle.id_lookup.specs.Words.{IsIndex}
 use Rattle.object_store.specs.Stores.{Holds, StoreView}
-use Rattle.pack_index.specs.Format.{IsPackIndex, names_in}
+use Rattle.pack_index.specs.Format.{HasCounts, names_in}
 use Rattle.repositories.specs.Answers.{Answers}
 use Rattle.repositories.specs.Walks.{with_alternates}
 use Rattle.repositories.specs.declared.finding.ObjectDirectory.{ObjectDirectory}
@@ -23,9 +23,9 @@ pub record HasIndex (at : Answers) (directory path : List ℕ) : Type 0 where
   pub is_path : path ≡ path_join (packs_of directory) (stem ++ codes ".idx")
   pub has_pack : IsTrue (is_found_file (at.look (path_join (packs_of directory) (stem ++ codes ".pack"))))
 
--- the file of each pack index of these object directories is one
-abbrev pub AreIndexFiles : Answers → Kind → List (List ℕ) → Type 0
-AreIndexFiles at kind directories = (directory path : List ℕ) → Contains directories directory → HasIndex at directory path → (bytes : List ℕ) × (at.bytes path ≡ Ok bytes) × IsPackIndex kind bytes
+-- the fan-out table of each pack index of these object directories is right
+abbrev pub HaveCounts : Answers → Kind → List (List ℕ) → Type 0
+HaveCounts at kind directories = (directory path : List ℕ) → Contains directories directory → HasIndex at directory path → (bytes : List ℕ) × (at.bytes path ≡ Ok bytes) × HasCounts kind bytes
 
 -- an object directory has an object: the file of one of its pack indexes has the id, or it is loose, and asked for
 abbrev pub HasObject : Answers → Kind → LooseIds → List ℕ → List ℕ → Type 0
@@ -38,9 +38,9 @@ pub record AreObjects (at : Answers) (kind : Kind) (which : LooseIds) (directori
   pub index : IsIndex kind ids
   pub members : (digits : List ℕ) → Contains ids digits ↔ ((directory : List ℕ) × Contains directories directory × HasObject at kind which directory digits)
 
--- a store has exactly the objects that some object directories have, if each of their pack indexes is one
+-- a store has exactly the objects that some object directories have, if the fan-out table of each of their pack indexes is right
 pub record HasAll (at : Answers) (which : LooseIds) (directories : List (List ℕ)) (view : StoreView) : Type 0 where
-  pub holds : (ids : List (List ℕ)) → AreIndexFiles at view.kind directories → AreObjects at view.kind which directories ids → Holds view ids
+  pub holds : (ids : List (List ℕ)) → HaveCounts at view.kind directories → AreObjects at view.kind which directories ids → Holds view ids
 
 -- these are the paths of an object directory and of its alternates, of which none is skipped
 abbrev pub AreWithAlternates : Answers → ObjectDirectory → List (List ℕ) → Type 0

@@ -6,6 +6,7 @@ use Rattle.pack_index.specs.Lazy.{HasBucket, IfKnown, IsBucketFault, LazyIndex}
 use Rattle.object_store.specs.declared.error.Error.{Error}
 use Rattle.object_store.specs.declared.error.Error.TheVariants.{Memory}
 use Rattle.pack_index.proofs.Buckets.{no_bucket_fault}
+use Rattle.pack_index.proofs.Counted.{length-names_in}
 use Rattle.pack_index.specs.Format.{IsPackIndex}
 use Rattle.pack_index.specs.Lazy as lazy
 use Rattle.pack_index.specs.declared.lazy_error.LazyError.{LazyError}
@@ -78,9 +79,9 @@ module _ (Has : Kind → List ℕ → Type 0) (HasFault : Kind → Bool → List
 -- a look-up in a store whose pack indexes are sound fails only because a read fails, or because memory runs out
 no_first_fault : (Has : List ℕ → Type 0) (HasFault : Bool → List ℕ → LazyError → Type 0) (view : StoreView) (whole : List (List ℕ))
     (e : Error) → ((can_fail : Bool) (bytes : List ℕ) (why : LazyError) → IsPackIndex view.kind bytes → HasFault can_fail bytes why → lazy.IsReadOrMemory can_fail why)
-    → Holds view whole → IsFirstFault Has HasFault view e → IsIndexReadOrMemory view e
-no_first_fault Has HasFault view whole (Memory error) no_fault h first = tt
-no_first_fault Has HasFault view whole e no_fault h first =
+    → (h : Holds view whole) → All (IsPackIndex view.kind) h.indexes → IsFirstFault Has HasFault view e → IsIndexReadOrMemory view e
+no_first_fault Has HasFault view whole (Memory error) no_fault h sound first = tt
+no_first_fault Has HasFault view whole e no_fault h sound first =
     let packs = view.packs in
     let at = first.0 in
     let pack = first.1 in
@@ -92,21 +93,21 @@ no_first_fault Has HasFault view whole e no_fault h first =
       first.2,
       first.4,
       first.5,
-      no_fault pack.can_fail (get_or h.indexes at []) first.4 (h.are_indexes at [] inside)
+      no_fault pack.can_fail (get_or h.indexes at []) first.4 (sound at [] inside)
           (first.6 (get_or h.indexes at []) (ap (λ (p : LazyIndex). p.content) (sym (get_or_from_slice_get packs at pack pack first.2)) ∙ known)),
     )
 
-pub no_store_fault : (view : StoreView) (whole : List (List ℕ)) (byte : ℕ) (e : Error) → Holds view whole → IsStoreFault view byte e → IsIndexReadOrMemory view e
+pub no_store_fault : (view : StoreView) (whole : List (List ℕ)) (byte : ℕ) (e : Error) → (h : Holds view whole) → All (IsPackIndex view.kind) h.indexes → IsStoreFault view byte e → IsIndexReadOrMemory view e
 no_store_fault view whole byte e =
     no_first_fault (λ bytes. HasBucket view.kind bytes byte) (λ can_fail bytes why. IsBucketFault can_fail view.kind bytes byte why) view whole e
     (λ can_fail bytes. no_bucket_fault can_fail view.kind bytes byte)
 
 no_location_fault : (can_fail : Bool) (kind : Kind) (bytes digits : List ℕ) (e : LazyError) → IsPackIndex kind bytes → IsLocationFault can_fail kind bytes digits e
     → lazy.IsReadOrMemory can_fail e
-no_location_fault can_fail kind bytes digits (NoOffset at) index fault = fault.2 (index.offsets.in_table at (omega (arith, fault.0.inside, fault.1.to)))
+no_location_fault can_fail kind bytes digits (NoOffset at) index fault = fault.2 (index.offsets.in_table at (omega (arith, fault.0.inside, fault.1.to, length-names_in kind bytes index.names.tables)))
 no_location_fault can_fail kind bytes digits e index fault = no_bucket_fault can_fail kind bytes (first_byte_of digits) e index fault
 
-pub no_locate_fault : (view : StoreView) (whole : List (List ℕ)) (digits : List ℕ) (e : Error) → Holds view whole → IsLocateFault view digits e → IsIndexReadOrMemory view e
+pub no_locate_fault : (view : StoreView) (whole : List (List ℕ)) (digits : List ℕ) (e : Error) → (h : Holds view whole) → All (IsPackIndex view.kind) h.indexes → IsLocateFault view digits e → IsIndexReadOrMemory view e
 no_locate_fault view whole digits e =
     no_first_fault (λ bytes. (offset : Option ℕ) × IsOffsetOf view.kind bytes digits offset) (λ can_fail bytes why. IsLocationFault can_fail view.kind bytes digits why) view whole e
     (λ can_fail bytes. no_location_fault can_fail view.kind bytes digits)

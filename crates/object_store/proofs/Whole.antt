@@ -1,4 +1,4 @@
--- A store whose pack indexes are sound has read all of its ids with a first byte.
+-- A store whose pack indexes have right fan-out tables has read all of its ids with a first byte.
 use Rattle.gix_hash.proofs.Std.{◌≡◌, ℕ, ◌<◌, ◌≤◌, inl, inr, Bool, true, nat_eq, None, List, [], ◌++◌, length, get_or, map, sym, ap, ◌∙◌, subst, arith, All, Contains, flat_map, starts_with, ext_get_or, get_or-map, length-map, Contains-append_cases, Contains-append_left, Contains-append_right, Contains-get_or, filter-append, flat_map-map}
 use Rattle.id_lookup.specs.Words.{IsIndexOf, ObjectId, first_byte_of, has_first_byte, id_digits, matches, part_of}
 use Rattle.id_lookup.proofs.Beginnings.{first_byte_of-begins, matches-part, same_test}
@@ -32,9 +32,9 @@ module _ (view : StoreView) (whole : List (List ℕ)) (byte : ℕ) (read : List 
       let within : k < length h.indexes = omega (arith, inside, many) in
       let bytes = get_or h.indexes k [] in
       let known = known_at view.packs h.indexes h.known k p inside in
-      let index = h.are_indexes k [] within in
+      let right = h.are_counted k [] within in
       let there = zipped_at (AreCounted view.kind byte) view.packs r.names r.counted k p [] inside bytes known in
-      there.1 ∙ counted_all view.kind byte bytes index.names.tables index.names.counts r.small there.0.in_order there.0.inside there.0.first
+      there.1 ∙ counted_all view.kind byte bytes right r.small there.0
       ∙ sym (get_or-map counted h.indexes k [] [] within))
 
   pub read_is : read ≡ part_of byte packed ++ view.loose

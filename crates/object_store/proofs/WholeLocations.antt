@@ -1,8 +1,8 @@
--- The locations of an object in a store whose pack indexes are sound.
+-- The locations of an object in a store whose pack indexes have right fan-out tables.
 use Rattle.gix_hash.proofs.Std.{◌≡◌, ℕ, ◌<◌, true, Option, None, Some, List, [], ◌++◌, length, get_or, map, sym, ap, ◌∙◌, arith, ext_get_or, get_or-map, length-map}
 use Rattle.std.proofs.lemmas.Slice.Zip.{AllZip-long}
 use Rattle.id_lookup.specs.Words.{Kind, first_byte_of}
-use Rattle.pack_index.specs.Format.{IsPackIndex}
+use Rattle.pack_index.specs.Format.{HasCounts}
 use Rattle.pack_index.specs.Lazy.{LazyIndex}
 use Rattle.pack_index.proofs.LookedUp.{first_of_all, none_of_all}
 use Rattle.object_store.specs.Stores.{AreLocations, Holds, IsOffsetOf, StoreView, in_packs, locations_of, loose_at, offset_of}
@@ -12,11 +12,11 @@ use Rattle.object_store.proofs.Located.{IsOffsetAt, offset_none, offset_some}
 use Rattle.object_store.proofs.Zipped.{zipped_at}
 
 -- the offset of the first counted name that is the id is that of the first name that is the id
-offset_is : (kind : Kind) (bytes id : List ℕ) → IsPackIndex kind bytes → first_byte_of id < 256 → (offset : Option ℕ) → IsOffsetOf kind bytes id offset → offset ≡ offset_of kind bytes id
+offset_is : (kind : Kind) (bytes id : List ℕ) → HasCounts kind bytes → first_byte_of id < 256 → (offset : Option ℕ) → IsOffsetOf kind bytes id offset → offset ≡ offset_of kind bytes id
 offset_is kind bytes id index small None none =
-    offset_none kind bytes id (none_of_all kind bytes id index.names.tables index.names.counts small none.0 none.1)
+    offset_none kind bytes id (none_of_all kind bytes id index small none.0 none.1)
 offset_is kind bytes id index small (Some offset) found =
-    offset_some kind bytes id found.1 offset (first_of_all kind bytes id index.names.tables index.names.counts small found.0 found.1 found.2) found.4
+    offset_some kind bytes id found.1 offset (first_of_all kind bytes id index small found.0 found.1 found.2) found.4
 
 -- so the locations are those by the bytes of all pack indexes
 module _ (view : StoreView) (whole : List (List ℕ)) (id : List ℕ) (locations : List Location) (h : Holds view whole) (are : AreLocations view id locations) where
@@ -33,7 +33,7 @@ module _ (view : StoreView) (whole : List (List ℕ)) (id : List ℕ) (locations
       let within : k < length h.indexes = omega (arith, inside, many) in
       let bytes = get_or h.indexes k [] in
       let offset = zipped_at (IsOffsetAt view.kind id) view.packs are.offsets are.read k p None inside bytes (known_at view.packs h.indexes h.known k p inside) in
-      offset_is view.kind bytes id (h.are_indexes k [] within) are.small (get_or are.offsets k None) offset ∙ sym (get_or-map by_bytes h.indexes k [] None within))
+      offset_is view.kind bytes id (h.are_counted k [] within) are.small (get_or are.offsets k None) offset ∙ sym (get_or-map by_bytes h.indexes k [] None within))
 
   pub whole_locations : locations ≡ locations_of view.kind id h.indexes view.loose
   whole_locations = are.all ∙ ap (λ (offsets : List (Option ℕ)). in_packs 0 offsets ++ loose_at id view.loose) offsets_are

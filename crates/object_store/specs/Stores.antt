@@ -8,7 +8,7 @@ use Rattle.std.specs.declared.io.Error.{Error as IoError}
 use Rattle.std.specs.declared.io.ErrorKind.{ErrorKind}
 use Rattle.std.specs.declared.io.ErrorKind.TheVariants.{NotFound}
 use Rattle.id_lookup.specs.Words.{IsIndexOf, Kind, KindDigits, ObjectId, first_byte_of, id_digits, id_kind, matches}
-use Rattle.pack_index.specs.Format.{HasOffset, IsPackIndex, names_in, offset_in}
+use Rattle.pack_index.specs.Format.{Each, HasCounts, HasOffset, names_in, offset_in}
 use Rattle.pack_index.specs.Lazy.{BucketNames, HasBucket, IfKnown, IsBucketFault, IsFirstCounted, IsPartOf, LazyIndex, counted_with}
 use Rattle.pack_index.specs.Lazy as lazy
 use Rattle.pack_index.specs.declared.lazy_error.LazyError.{LazyError}
@@ -46,11 +46,11 @@ pub record IsReopened (MayHave MayHaveThen : StoreView → Type 0) (old new : St
 
 -- What an object store holds. Each id is given by its digits.
 
--- the bytes of all pack indexes are known and are those of sound ones, and `whole` is the index of all their names and the loose ids
+-- the bytes of all pack indexes are known, their fan-out tables are right, and `whole` is the index of all their names and the loose ids
 pub record Holds (view : StoreView) (whole : List (List ℕ)) : Type 0 where
   pub indexes : List (List ℕ)
   pub known : map (λ (pack : LazyIndex). pack.content) view.packs ≡ map Some indexes
-  pub are_indexes : All (IsPackIndex view.kind) indexes
+  pub are_counted : All (HasCounts view.kind) indexes
   pub all : IsIndexOf view.kind (flat_map (names_in view.kind) indexes ++ view.loose) whole
 
 -- the id is one of the ids, and the name is its shortest prefix of at least `fewest` digits with which no other one begins

@@ -5,7 +5,7 @@ use Rattle.id_digits.proofs.ByteDigits.{take-digits_of}
 use Rattle.id_lookup.proofs.FilterCounted.{filter_counted}
 use Rattle.id_lookup.proofs.FirstByteCounts.{count_by-below_0, count_by-up_to, up_to_step}
 use Rattle.id_lookup.proofs.PartsInOrder.{below-next, part-run}
-use Rattle.pack_index.specs.Format.{Each, HasCount, HasTables, IsPackIndex, crc_table_start, digests_in, names_in, num_objects}
+use Rattle.pack_index.specs.Format.{HasCounts, HasTables, IsPackIndex, crc_table_start, digests_in, names_in, num_objects}
 use Rattle.pack_index.specs.Lazy.{HasBucket, HaveFirstByte, HaveIds, IsBucketFault, IsRunFault, IsReadOrMemory, bucket_end, bucket_start, counted_with}
 use Rattle.pack_index.specs.declared.lazy_error.LazyError.{LazyError}
 use Rattle.pack_index.specs.declared.lazy_error.LazyError.TheVariants.{Read, Memory, WrongCount}
@@ -94,7 +94,7 @@ module _ (kind : Kind) (bytes : List ℕ) (tables : HasTables kind bytes) where
       ∙ ap (λ m. digits_of (take n (drop m bytes))) same ∙ sym (digest_in kind (1032 + n * start) (end - start) k bytes found d found_is long less))
 
 -- as many names have a byte as are counted with it and not before it
-pub count_has : (kind : Kind) (bytes : List ℕ) (byte : ℕ) → Each (HasCount kind bytes) 256 → byte < 256
+pub count_has : (kind : Kind) (bytes : List ℕ) (byte : ℕ) → HasCounts kind bytes → byte < 256
     → count_by (has_first_byte byte) (names_in kind bytes) + bucket_start bytes byte ≡ bucket_end bytes byte
 count_has kind bytes zero counts small =
     omega (arith, counts 0 small, count_by-up_to 0 (names_in kind bytes), count_by-below_0 (names_in kind bytes))
@@ -104,12 +104,11 @@ count_has kind bytes (suc b) counts small =
     omega (arith, counts (suc b) small, counts b (omega arith), step, ap (λ n. count_by (is_up_to n) (names_in kind bytes)) before)
 
 -- if each has the byte, they are all that have it
-pub counted_all : (kind : Kind) (byte : ℕ) (bytes : List ℕ) → HasTables kind bytes → Each (HasCount kind bytes) 256 → byte < 256
-    → bucket_start bytes byte ≤ bucket_end bytes byte → bucket_end bytes byte ≤ num_objects bytes
-    → HaveFirstByte byte (counted_with kind bytes byte) → counted_with kind bytes byte ≡ part_of byte (names_in kind bytes)
-counted_all kind byte bytes tables counts small rise inside first =
-    filter_counted (has_first_byte byte) (names_in kind bytes) (bucket_start bytes byte) (bucket_end bytes byte) rise
-    (omega (arith, inside, length-names_in kind bytes tables)) first (omega (arith, count_has kind bytes byte counts small))
+pub counted_all : (kind : Kind) (byte : ℕ) (bytes : List ℕ) → HasCounts kind bytes → byte < 256 → HasBucket kind bytes byte
+    → counted_with kind bytes byte ≡ part_of byte (names_in kind bytes)
+counted_all kind byte bytes counts small has =
+    filter_counted (has_first_byte byte) (names_in kind bytes) (bucket_start bytes byte) (bucket_end bytes byte) has.in_order has.inside has.first
+    (omega (arith, count_has kind bytes byte counts small))
 
 -- second digits are below 16
 second_digit : (bytes : List ℕ) → slice_index (digits_of bytes) 1 < 16

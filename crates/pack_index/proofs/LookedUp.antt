@@ -4,10 +4,9 @@ use Rattle.id_lookup.specs.Words.{Kind, first_byte_of, has_first_byte}
 use Rattle.id_lookup.proofs.Filtering.{filter_all, three_parts}
 use Rattle.id_lookup.proofs.Filters.{contains_kept}
 use Rattle.id_lookup.proofs.Spelled.{starts_with-BeginsWith}
-use Rattle.pack_index.specs.Format.{Each, HasCount, HasTables, IsFirstIndexOf, names_in}
+use Rattle.pack_index.specs.Format.{HasCounts, IsFirstIndexOf, names_in}
 use Rattle.pack_index.specs.Lazy.{AreAmong, BucketNames, HasBucket, IsFirstCounted, bucket_end, bucket_start}
 use Rattle.pack_index.proofs.Buckets.{counted_all}
-use Rattle.pack_index.proofs.Counted.{length-names_in}
 
 -- an id has one first index
 counted_once : (kind : Kind) (bytes id : List ℕ) (m n : ℕ) → IsFirstCounted kind bytes id m → IsFirstCounted kind bytes id n → m ≡ n
@@ -58,7 +57,7 @@ module _ {kind : Kind} {bytes : List ℕ} {part : BucketNames} (id : List ℕ) (
   )
 
 -- the same of all names, if the fan-out table is right
-module _ (kind : Kind) (bytes id : List ℕ) (tables : HasTables kind bytes) (counts : Each (HasCount kind bytes) 256) (small : first_byte_of id < 256)
+module _ (kind : Kind) (bytes id : List ℕ) (counts : HasCounts kind bytes) (small : first_byte_of id < 256)
     (has : HasBucket kind bytes (first_byte_of id)) where
   not_in : (names : List (List ℕ)) → length (filter (has_first_byte (first_byte_of id)) names) ≡ 0 → (k : ℕ) → k < length names → get_or names k [] ≢ id
   not_in names none k low is =
@@ -76,14 +75,14 @@ module _ (kind : Kind) (bytes id : List ℕ) (tables : HasTables kind bytes) (co
       let front = take start names in
       let middle = slice_range names start end in
       let back = drop end names in
-      let inside : end ≤ length names = omega (arith, has.inside, length-names_in kind bytes tables) in
+      let inside : end ≤ length names = has.inside in
       let parts : length (filter p names) ≡ length (filter p front) + length (filter p (middle ++ back)) =
       ap (λ (xs : List (List ℕ)). length (filter p xs)) (sym (three_parts p names start end has.in_order)) ∙ ap length (filter-append p front (middle ++ back))
       ∙ length-append (filter p front) (filter p (middle ++ back)) in
       let rest : length (filter p (middle ++ back)) ≡ length (filter p middle) + length (filter p back) =
       ap length (filter-append p middle back) ∙ length-append (filter p middle) (filter p back) in
       let all = ap length (filter_all p middle has.first) in
-      let whole = ap length (counted_all kind (first_byte_of id) bytes tables counts small has.in_order has.inside has.first) in
+      let whole = ap length (counted_all kind (first_byte_of id) bytes counts small has) in
       elim (cases_lt k start) [
         | inl before ↦
             let long = length-take-le start names (omega (arith, inside, has.in_order)) in
@@ -99,7 +98,7 @@ module _ (kind : Kind) (bytes id : List ℕ) (tables : HasTables kind bytes) (co
 
   pub first_of_all : (at : ℕ) → IsFirstCounted kind bytes id at → IsFirstIndexOf (names_in kind bytes) id at
   first_of_all at first =
-      let inside : at < length (names_in kind bytes) = omega (arith, first.to, has.inside, length-names_in kind bytes tables) in record {
+      let inside : at < length (names_in kind bytes) = omega (arith, first.to, has.inside) in record {
         in_range = inside;
         same = first.same;
         first = λ k low is. first.first k (is_there k (omega (arith, low, inside)) is).0 low is;

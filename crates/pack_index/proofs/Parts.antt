@@ -5,7 +5,7 @@ use Rattle.id_lookup.proofs.Beginnings.{first_byte_of-begins, matches-part}
 use Rattle.id_lookup.proofs.Filtering.{filter_none}
 use Rattle.id_lookup.proofs.Filters.{filter_within}
 use Rattle.id_lookup.proofs.Spelled.{starts_with-BeginsWith}
-use Rattle.pack_index.specs.Format.{HasTables, names_in, num_objects}
+use Rattle.pack_index.specs.Format.{names_in}
 use Rattle.pack_index.proofs.Buckets.{counted_all}
 use Rattle.pack_index.specs.Lazy.{AreAmong, AreBetween, BeginWithin, BucketNames, HasBucket, HaveFirstByte, IfKnown, IsNarrowed, IsOrdered, IsPartOf, LazyIndex, bucket_end, bucket_start, counted_with}
 
@@ -48,7 +48,7 @@ part_matches kind bytes digits part among =
 
 -- ids that were read from one position of a bucket to another are a part, if all that begin with the digits are there
 module _ (index : LazyIndex) (digits : List ℕ) (from to : ℕ) (part : BucketNames) (are : AreBetween index (first_byte_of digits) from to part) (inside : to ≤ index.count)
-    (enough : 2 ≤ length digits) (small : first_byte_of digits < 256) (tables : IfKnown (HasTables index.kind) index) where
+    (enough : 2 ≤ length digits) (small : first_byte_of digits < 256) where
   reaches : (bytes : List ℕ) → index.content ≡ Some bytes → HasBucket index.kind bytes (first_byte_of digits) → bucket_start bytes (first_byte_of digits) ≤ from
       → to ≤ bucket_end bytes (first_byte_of digits)
       → BeginWithin (names_in index.kind bytes) digits (bucket_start bytes (first_byte_of digits)) (bucket_end bytes (first_byte_of digits)) from to
@@ -61,7 +61,7 @@ module _ (index : LazyIndex) (digits : List ℕ) (from to : ℕ) (part : BucketN
         names = names ∙ (λ i. slice_range (names_in index.kind bytes) (sym are.start i) (sym are.end i));
         all = λ k first last begins. let there = all k first last begins in (omega (arith, are.start, there.0), omega (arith, are.end, there.1));
         complete = λ counts. ap (matches digits) names ∙ matched digits (names_in index.kind bytes) _ _ from to low (omega (arith, are.start, are.end)) high all
-            ∙ ap (matches digits) (counted_all index.kind (first_byte_of digits) bytes (tables bytes known) counts small right.in_order right.inside right.first)
+            ∙ ap (matches digits) (counted_all index.kind (first_byte_of digits) bytes counts small right)
             ∙ matches-part digits (names_in index.kind bytes) enough;
       }
 
@@ -78,7 +78,7 @@ module _ (index : LazyIndex) (digits : List ℕ) (from to : ℕ) (part : BucketN
 
 -- ids that were read from the start of a bucket to its end
 module _ (index : LazyIndex) (byte from to : ℕ) (part : BucketNames) (are : AreBetween index byte from to part) (rise : from ≤ to) (bytes : List ℕ)
-    (known : index.content ≡ Some bytes) (start : from ≡ bucket_start bytes byte) (end : to ≡ bucket_end bytes byte) (inside : to ≤ num_objects bytes) where
+    (known : index.content ≡ Some bytes) (start : from ≡ bucket_start bytes byte) (end : to ≡ bucket_end bytes byte) (inside : to ≤ length (names_in index.kind bytes)) where
   counted : part.names ≡ counted_with index.kind bytes byte
   counted = are.known bytes known ∙ (λ i. slice_range (names_in index.kind bytes) (start i) (end i))
 
@@ -94,13 +94,13 @@ module _ (index : LazyIndex) (byte from to : ℕ) (part : BucketNames) (are : Ar
 
 -- they are a part for all digits with the first byte
 pub whole_part : (index : LazyIndex) (digits : List ℕ) (from to : ℕ) (part : BucketNames) → AreBetween index (first_byte_of digits) from to part → from ≤ to → to ≤ index.count
-    → 2 ≤ length digits → first_byte_of digits < 256 → IfKnown (HasTables index.kind) index → IfKnown (λ bytes. from ≡ bucket_start bytes (first_byte_of digits)) index
-    → IfKnown (λ bytes. to ≡ bucket_end bytes (first_byte_of digits)) index → IfKnown (λ bytes. to ≤ num_objects bytes) index → IsPartOf index digits part
-whole_part index digits from to part are rise inside enough small tables starts ends within =
-    is_part index digits from to part are inside enough small tables (λ bytes known.
+    → 2 ≤ length digits → first_byte_of digits < 256 → IfKnown (λ bytes. from ≡ bucket_start bytes (first_byte_of digits)) index
+    → IfKnown (λ bytes. to ≡ bucket_end bytes (first_byte_of digits)) index → IfKnown (λ bytes. to ≤ length (names_in index.kind bytes)) index → IsPartOf index digits part
+whole_part index digits from to part are rise inside enough small starts ends within =
+    is_part index digits from to part are inside enough small (λ bytes known.
     let start = starts bytes known in
     let end = ends bytes known in
-    reaches index digits from to part are inside enough small tables bytes known
+    reaches index digits from to part are inside enough small bytes known
     (whole_right index (first_byte_of digits) from to part are rise bytes known start end (within bytes known)) (omega (arith, start)) (omega (arith, end))
     (λ k low high begins. (omega (arith, start, low), omega (arith, end, high))))
 

@@ -139,6 +139,10 @@ HasTables kind bytes = FillsBytes kind (num_objects bytes) (length bytes)
 abbrev pub HasCount : Kind → List ℕ → ℕ → Type 0
 HasCount kind bytes b = word_at bytes (8 + 4 * b) ≡ count_by (is_up_to b) (names_in kind bytes)
 
+-- the fan-out table is right: each entry is the number of ids with at most its first byte
+abbrev pub HasCounts : Kind → List ℕ → Type 0
+HasCounts kind bytes = Each (HasCount kind bytes) 256
+
 -- an object's offset is in a table
 abbrev pub HasOffset : Kind → List ℕ → ℕ → Type 0
 HasOffset kind bytes k = long_word ≤ offset_word kind bytes k → long_entry kind bytes k + 8 ≤ tables_end kind bytes
@@ -164,7 +168,7 @@ pub record HasNames (kind : Kind) (bytes : List ℕ) : Type 0 where
   pub head : HasHead kind bytes
   pub tables : HasTables kind bytes
   pub sorted : IsSortedIds (names_in kind bytes)
-  pub counts : Each (HasCount kind bytes) 256
+  pub counts : HasCounts kind bytes
 
 -- each object has an offset, and the 8-byte ones are used in the order of objects
 pub record HasOffsets (kind : Kind) (bytes : List ℕ) : Type 0 where

@@ -4,7 +4,7 @@ use Rattle.std.specs.List.{starts_with}
 use Rattle.id_digits.specs.Digits.{word}
 use Rattle.id_lookup.specs.Words.{IsSortedIds, Kind, first_byte_of, has_first_byte, matches}
 use Rattle.id_lookup.specs.declared.search.Run.{Run}
-use Rattle.pack_index.specs.Format.{Each, HasCount, HasHead, HasOffset, HasTables, IsFirstNot, IsHeadFault, names_in, num_objects, word_at}
+use Rattle.pack_index.specs.Format.{HasCounts, HasHead, HasOffset, HasTables, IsFirstNot, IsHeadFault, names_in, num_objects, word_at}
 use Rattle.pack_index.specs.declared.front.Front.{Front}
 use Rattle.pack_index.specs.declared.lazy_error.LazyError.{LazyError}
 use Rattle.pack_index.specs.declared.lazy_error.LazyError.TheVariants.{Read, Memory, Head, CountsFall, WrongCount, NoOffset}
@@ -43,10 +43,10 @@ counted_with kind bytes byte = slice_range (names_in kind bytes) (bucket_start b
 abbrev pub HaveFirstByte : ℕ → List (List ℕ) → Type 0
 HaveFirstByte byte ids = All (λ id. IsTrue (has_first_byte byte id)) ids
 
--- the fan-out entries around a first byte are in order and at most the number of objects, and each id between them has that first byte
+-- the fan-out entries around a first byte are in order and at most the number of ids, and each id between them has that first byte
 pub record HasBucket (kind : Kind) (bytes : List ℕ) (byte : ℕ) : Type 0 where
   pub in_order : bucket_start bytes byte ≤ bucket_end bytes byte
-  pub inside : bucket_end bytes byte ≤ num_objects bytes
+  pub inside : bucket_end bytes byte ≤ length (names_in kind bytes)
   pub first : HaveFirstByte byte (counted_with kind bytes byte)
 
 -- what contracts see of a bucket: the kind of its ids, the position of the first of them in the pack index, and the ids
@@ -93,7 +93,7 @@ pub record AreAmong (kind : Kind) (bytes digits : List ℕ) (part : BucketNames)
   pub names : part.names ≡ slice_range (names_in kind bytes) part.start (part.start + length part.names)
   pub all : BeginWithin (names_in kind bytes) digits (bucket_start bytes (first_byte_of digits)) (bucket_end bytes (first_byte_of digits))
       part.start (part.start + length part.names)
-  pub complete : Each (HasCount kind bytes) 256 → matches digits part.names ≡ matches digits (names_in kind bytes)
+  pub complete : HasCounts kind bytes → matches digits part.names ≡ matches digits (names_in kind bytes)
 
 -- ids of a pack index with the first byte of the digits: all that begin with the digits, if the fan-out table is right
 pub record IsPartOf (index : LazyIndex) (digits : List ℕ) (part : BucketNames) : Type 0 where

@@ -2,7 +2,7 @@
 
 ghost use Rattle.std.specs.Prelude.{◌≡◌, ◌↔◌, ◌<◌, ◌≤◌, IfErr, IsTrue, MatchOption, OnOk, length};
 ghost use Rattle.id_lookup.specs.Words.{IsFanOut};
-ghost use Rattle.pack_index.specs.Format.{BeginsIndex, Each, FillsBytes, HasCount, HasHead, HasOffset, HasTables, IsFault, IsFirstNot, IsHeadFault, min_len, names_in, names_start, num_objects, other_than, version_1_len};
+ghost use Rattle.pack_index.specs.Format.{BeginsIndex, Each, FillsBytes, HasCount, HasCounts, HasHead, HasOffset, HasTables, IsFault, IsFirstNot, IsHeadFault, min_len, names_in, names_start, num_objects, other_than, version_1_len};
 ghost use Rattle.pack_index.specs.Lazy.{Rises};
 
 use crate::error::Error;
@@ -107,7 +107,7 @@ fn fills_bytes(first: &[u8], kind: Kind, len: u64) -> bool
 pub(crate) fn first_wrong_count(bytes: &[u8], fan_out: &FanOut, kind: Kind) -> Option<u8>
     requires tables { HasTables kind bytes.now }
     requires fan_out { IsFanOut fan_out.now (names_in kind bytes.now) }
-    ensures { MatchOption result (Each (HasCount kind bytes.now) 256)
+    ensures { MatchOption result (HasCounts kind bytes.now)
         (IsFirstNot (HasCount kind bytes.now) 256) }
 {
     for byte in 0..=255 {

@@ -2,7 +2,7 @@
 
 ghost use Rattle.std.specs.Prelude.{◌≡◌, ◌≢◌, ◌↔◌, ◌+◌, ◌-◌, ◌*◌, ◌<◌, ◌≤◌, ℕ, [], All, IfErr, IfOk, IfSome, IsTrue, List, MatchOption, OnOk, Some, length, slice_index_or};
 ghost use Rattle.id_lookup.specs.Words.{byte_len_of, first_byte_of, has_first_byte, hex_len_of, oid_digits};
-ghost use Rattle.pack_index.specs.Format.{Each, HasCount, HasHead, HasOffset, HasTables, IsFirstIndexOf, digests_in, names_in, num_objects, offset_in, offset_word};
+ghost use Rattle.pack_index.specs.Format.{Each, HasCounts, HasHead, HasOffset, HasTables, IsFirstIndexOf, digests_in, names_in, num_objects, offset_in, offset_word};
 ghost use Rattle.pack_index.specs.Lazy.{AreBetween, HaveFirstByte, IfKnown, IsBucketFault, IsFirstCounted, IsRunFault, IsNarrowed, IsOffsetFault, IsOpenFault, IsOrdered, IsPartOf, IsReadOrMemory, Rises, bucket_end, bucket_start};
 ghost use Rattle.streams.specs.Streams.{IsReadAt};
 
@@ -154,8 +154,6 @@ impl<S: ReadAt + Drop> LazyFile<S> {
         ensures err { IfErr result (λ e. IfKnown (λ bytes. IsBucketFault self.old.can_fail
             self.old.kind bytes (first_byte_of prefix.now.digits) e) self.old) }
     {
-        // Its contract says that there are the tables of names.
-        let _count = self.num_objects();
         let byte = prefix.first_byte();
         if prefix.hex_len() == 2 || !self.reads_part(byte, few) {
             return self.read_whole(alloc, byte);
@@ -173,7 +171,7 @@ impl<S: ReadAt + Drop> LazyFile<S> {
         ensures in_range { IfSome result (λ at. at < self.now.count) }
         ensures name { IfSome result (λ at. IfKnown (λ bytes.
             slice_index_or (names_in self.now.kind bytes) at [] ≡ oid_digits id.entry) self.now) }
-        ensures found { IfKnown (λ bytes. Each (HasCount self.now.kind bytes) 256
+        ensures found { IfKnown (λ bytes. HasCounts self.now.kind bytes
             → let names = names_in self.now.kind bytes in
             MatchOption result ((k : ℕ) → k < length names
             → slice_index_or names k [] ≢ oid_digits id.entry)

@@ -12,7 +12,7 @@ returns-clause-part g c =
     IfOk-weaker c.read_run.result _ _
     (λ part are.
     narrowed_part c.args.self.now c.args.prefix.now.digits c.in_ok-part.part.start c.in_ok-part.part.end part (rw (← byte) are) c.in_ok-part.ensures.inside
-    c.requires.enough (rw (← byte) c.first_byte-byte.type_inv) c.num_objects-count.ensures.tables (rw (← byte) ordered) c.in_ok-part.ensures.all) c.read_run.ensures.ids
+    c.requires.enough (rw (← byte) c.first_byte-byte.type_inv) (rw (← byte) ordered) c.in_ok-part.ensures.all) c.read_run.ensures.ids
 
 pub returns-clause-err : goal.returns-clause-err
 returns-clause-err g c =
