@@ -22,8 +22,10 @@ below = $(sort $(foreach low,$(direct_$1),$(low) $(call below,$(low))))
 goal_crates = $(or $(filter $1,$(PROGRAMS)),$(if $(filter lib install-lib,$1),gix_hash_c,$(PROGRAMS) $(if $(filter install dist,$1),gix_hash_c)))
 NEEDED := $(foreach goal,$(or $(MAKECMDGOALS),all),$(call goal_crates,$(goal)))
 export NEEDED := $(filter $(NEEDED) $(foreach crate,$(NEEDED),$(call below,$(crate))),$(CRATES))
+# Those of them that were never built.
+UNBUILT := $(filter-out $(patsubst crates/%/out/built,%,$(wildcard crates/*/out/built)),$(NEEDED))
 
-.PHONY: all help lib test bench docs install install-lib uninstall dist clean always $(PROGRAMS)
+.PHONY: all help lib test bench docs install install-lib uninstall dist clean always needs $(PROGRAMS)
 .DELETE_ON_ERROR:
 
 all: $(PROGRAMS)
@@ -43,9 +45,13 @@ help:
 
 $(PROGRAMS): %: crates/%/out/built
 
+# If anything is missing, nothing is proved.
+needs:
+	@$(if $(UNBUILT),tools/needs make '$(CC)' python3)
+
 # rules CRATE: what is proved before it, and how it is made.
 define rules
-crates/$1/out/built: always $(foreach low,$(direct_$1),crates/$(low)/out/built)
+crates/$1/out/built: always needs $(foreach low,$(direct_$1),crates/$(low)/out/built)
 	@tools/prove $1 $(named_$1) -- $(call below,$1)
 endef
 $(foreach crate,$(CRATES),$(eval $(call rules,$(crate))))
