@@ -3,7 +3,7 @@ use Rattle.std.specs.Prelude.{◌≡◌, ◌≢◌, ◌++◌, ℕ, List, [], All
 use Rattle.gix_hash.specs.Words.{AreIdDigits, id_digits, id_kind}
 use Rattle.gix_hash.specs.declared.Kind.{Kind}
 use Rattle.gix_hash.specs.declared.ObjectId.{ObjectId}
-use Rattle.directory_store.specs.Printed.{line_then}
+use Rattle.callers.specs.Printed.{line_then}
 
 -- a line of a key and digits, and the rest after it
 abbrev pub keyed_then : List ℕ → List ℕ → List ℕ → List ℕ

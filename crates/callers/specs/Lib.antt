@@ -1,4 +1,5 @@
 pub mod Commits
 pub mod Names
 pub mod Offsets
+pub mod Printed
 pub mod References

@@ -3,7 +3,7 @@ use Rattle.std.specs.Prelude.{◌≡◌, ◌≢◌, ◌++◌, ◌∷◌, ◌==�
 use Rattle.std.specs.List.{list_all, list_any}
 use Rattle.gix_hash.specs.Words.{AreIdDigits, id_digits, id_kind}
 use Rattle.gix_hash.specs.declared.Kind.{Kind}
-use Rattle.directory_store.specs.Printed.{line_then}
+use Rattle.callers.specs.Printed.{line_then}
 use Rattle.callers.specs.declared.references.Reference.{Reference}
 use Rattle.callers.specs.declared.references.Reference.TheVariants.{Id, Symbolic}
 

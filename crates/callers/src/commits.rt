@@ -4,7 +4,7 @@ ghost use Rattle.std.specs.Prelude.{◌≡◌, codes, IfOk, MatchOption};
 ghost use Rattle.gix_hash.specs.Words.{id_digits, id_kind};
 ghost use Rattle.callers.specs.Commits.{keyed_then, HasNoKeyed, IsHead};
 
-use directory_store::printed::{after_key, read_line};
+use crate::printed::{after_key, read_line};
 use gix_hash::{Kind, ObjectId};
 use std::alloc::{AllocError, Global};
 

@@ -9,6 +9,8 @@ pub mod checking;
 pub mod commits;
 pub mod names;
 pub mod offsets;
+pub mod paths;
+pub mod printed;
 pub mod reading;
 pub mod references;
 pub mod resolving;

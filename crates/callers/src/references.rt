@@ -6,7 +6,7 @@ ghost use Rattle.std.specs.Io.KnownBytes.{Appends};
 ghost use Rattle.std.specs.List.{list_all};
 ghost use Rattle.callers.specs.References.{is_reference_byte, reference_text, IsName, IsReference, IsNoReference};
 
-use directory_store::printed::{Line, after_key, read_line};
+use crate::printed::{Line, after_key, read_line};
 use gix_hash::{Kind, ObjectId};
 use std::io;
 

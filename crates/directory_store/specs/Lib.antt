@@ -3,5 +3,4 @@ pub mod Loose
 pub mod Opened
 pub mod Packs
 pub mod Paths
-pub mod Printed
 pub mod Stores

@@ -1,7 +1,8 @@
 -- What contracts say of object stores in directories.
-use Rattle.std.specs.Prelude.{ℕ, ◌≡◌, ◌⊎◌, ◌++◌, All, Bool, IsSomeAnd, List, [], ◌∷◌, MatchOption, Option, None, Some, false, if◌then◌else◌, bytes_eq, codes, flat_map, map, option_to_list, string_bytes, true}
+use Rattle.std.specs.Prelude.{ℕ, ◌≡◌, ◌≢◌, ◌⊎◌, ◌++◌, All, Bool, IsSomeAnd, List, [], ◌∷◌, MatchOption, Option, None, Some, false, if◌then◌else◌, bytes_eq, codes, flat_map, map, option_to_list, string_bytes, true}
 use Rattle.std.specs.List.{AllZip, Contains, list_any}
 use Rattle.std.specs.declared.time.SystemTime.{SystemTime}
+use Rattle.gix_hash.specs.Words.{AreIdDigits, hex_letter, id_digits, id_kind, spelling}
 use Rattle.gix_hash.specs.declared.Kind.{Kind}
 use Rattle.gix_hash.specs.declared.ObjectId.{ObjectId}
 use Rattle.object_store.specs.Stores as stores
@@ -15,7 +16,6 @@ use Rattle.repositories.specs.declared.error.Error as repositories
 use Rattle.repositories.specs.declared.error.Error.TheVariants as repository_errors
 use Rattle.repositories.specs.declared.state.FileState.{FileState}
 use Rattle.directory_store.specs.Paths.{loose_path}
-use Rattle.directory_store.specs.Printed.{IsNotPrinted, IsPrinted}
 use Rattle.directory_store.specs.declared.error.Error.{Error}
 use Rattle.directory_store.specs.declared.error.Error.TheVariants.{Changed, Index, Memory, Repository}
 use Rattle.directory_store.specs.declared.loose.LooseDirectory.{LooseDirectory}
@@ -33,9 +33,15 @@ abbrev pub fan_outs_of : LooseIds → ℕ
 fan_outs_of loose_ids.All = 256
 fan_outs_of (loose_ids.WithFirstByte byte) = 1
 
+-- the id of the kind that the text is, in lowercase hex digits, if it is one
+abbrev pub IsIdText : Kind → List ℕ → Option ObjectId → Type 0
+IsIdText kind text id =
+    MatchOption id ((digits : List ℕ) → AreIdDigits kind digits → text ≢ spelling hex_letter digits)
+    (λ id. (id_kind id ≡ kind) × (text ≡ spelling hex_letter (id_digits id)) × AreIdDigits kind (id_digits id))
+
 -- the id of the loose object whose file has this name, in the directory of a first byte, if it is one's: the byte's digits and the name are the id
 abbrev pub IsLooseId : Kind → ℕ → List ℕ → Option ObjectId → Type 0
-IsLooseId kind byte name id = MatchOption id (IsNotPrinted kind (hex_of byte ++ name)) (IsPrinted kind (hex_of byte ++ name))
+IsLooseId kind byte name id = IsIdText kind (hex_of byte ++ name) id
 
 -- what a list gets of the files of these names, in the directory of a first byte: the id of each that is a loose object's, in the order of the names
 pub record AppendsLooseIds (kind : Kind) (byte : ℕ) (names : List (List ℕ)) (old new : List ObjectId) : Type 0 where

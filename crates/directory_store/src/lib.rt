@@ -1,8 +1,8 @@
 //! Object stores in directories, as Git has them (gitrepository-layout).
 //!
 //! [`DirectoryStore`] is an [`object_store::Store`]: the pack indexes and the loose objects of an
-//! object directory and of its alternates, as `repositories` finds them. [`paths`] and [`printed`]
-//! read and write ids as Git does in its directories.
+//! object directory and of its alternates, as `repositories` finds them. [`paths`] writes the paths
+//! of loose objects.
 #![tactic(auto)]
 
 mod error;
@@ -13,8 +13,6 @@ mod loose;
 mod packs;
 /// Paths of loose objects.
 pub mod paths;
-/// Ids in texts.
-pub mod printed;
 mod source;
 mod store;
 

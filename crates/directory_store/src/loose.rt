@@ -6,15 +6,14 @@ ghost use Rattle.gix_hash.specs.Words.{hex_letter, id_digits, id_kind};
 ghost use Rattle.repositories.specs.Answers.{Answers, IfKnown};
 ghost use Rattle.repositories.specs.Stores.{hex_of};
 ghost use Rattle.directory_store.specs.Loose.{AreLoose, AreLooseIn, AreNamesIn, HasAllLoose, HasNamesAt, ListsIfThere, bytes_asked, fan_out_in, listed_in};
-ghost use Rattle.directory_store.specs.Stores.{AppendsLooseIds, AreAllOf, AreSettled, IsLooseId, fan_outs_of, only_of, path_in, paths_in};
+ghost use Rattle.directory_store.specs.Stores.{AppendsLooseIds, AreAllOf, AreSettled, IsIdText, IsLooseId, fan_outs_of, only_of, path_in, paths_in};
 
 use crate::error::Error;
 use crate::listing::{
     are_settled, expect_state, expect_states, list_names, state_if_there, state_of, states_of,
 };
 use crate::paths::write_loose_path;
-use crate::printed::read_printed;
-use gix_hash::{Kind, ObjectId};
+use gix_hash::{Alphabet, Kind, ObjectId, laws};
 use object_store::LooseTable;
 use repositories::{Directories, FileState};
 use std::alloc::{AllocError, Global};
@@ -400,7 +399,22 @@ fn loose_id(kind: Kind, byte: u8, name: &[u8]) -> Option<ObjectId>
     text[0] = letter(byte / 16);
     text[1] = letter(byte % 16);
     text[2..len].copy_from_slice(name);
-    read_printed(kind, &text[..len])
+    read_id(kind, &text[..len])
+}
+
+// The id of the kind that the text is, in lowercase, or `None` if it is not one.
+fn read_id(kind: Kind, text: &[u8]) -> Option<ObjectId>
+    ensures { IsIdText kind text.now result }
+{
+    laws::printed(Alphabet::Hex);
+    let Ok(id) = ObjectId::from_hex(text) else {
+        return None;
+    };
+    if id.kind() == kind && id.eq_bstr(text) {
+        Some(id)
+    } else {
+        None
+    }
 }
 
 // The letter of a hex digit.

@@ -1,5 +1,5 @@
 use Rattle.gix_hash.proofs.Std.{strip_prefix_is, Decides-eqb}
-use Rattle.directory_store.proofs.printed.after_key.Goals as goal
+use Rattle.callers.proofs.printed.after_key.Goals as goal
 
 pub returns : goal.returns
 returns c = strip_prefix_is Decides-eqb _ _ _ c.strip_prefix.ensures.cases

@@ -1,7 +1,7 @@
 //! Ids in texts, as Git prints them: in lowercase hex digits.
 
 ghost use Rattle.std.specs.Prelude.{◌≡◌, ◌≢◌, ◌++◌, ℕ, List, MatchOption};
-ghost use Rattle.directory_store.specs.Printed.{IsPrinted, IsNotPrinted, HasLine, HasNoLine};
+ghost use Rattle.callers.specs.Printed.{IsPrinted, IsNotPrinted, HasLine, HasNoLine};
 
 use gix_hash::{Alphabet, Kind, ObjectId, laws};
 
