@@ -5,6 +5,7 @@ It runs in this repository, by what tools/gitstore.py says of stores. The variab
 
 import contextlib
 import errno
+import faulthandler
 import gc
 import hashlib
 import itertools
@@ -13,6 +14,7 @@ import pathlib
 import pickle
 import random
 import re
+import resource
 import shutil
 import signal
 import subprocess
@@ -23,6 +25,7 @@ import time
 import unittest
 import warnings
 from concurrent.futures import ThreadPoolExecutor
+from unittest import mock
 
 TOOLS = pathlib.Path(__file__).resolve().parents[2] / "tools"
 # Where `make lib` leaves it, and `make`.
@@ -39,6 +42,8 @@ from gix_hash import (  # noqa: E402
 )  # fmt: skip
 
 KINDS = {"sha1": Kind.SHA1, "sha256": Kind.SHA256}
+# It does what packtool does only in a bad moment.
+FAKE = str(TOOLS.parent / "bindings" / "fake_packtool")
 # How often a store is asked by each thread, and within how many seconds what is begun in a test has to end.
 QUESTIONS, LIMIT = 1000, 60
 
@@ -89,6 +94,9 @@ class Stores(unittest.TestCase):
     def setUp(self):
         self.room = pathlib.Path(tempfile.mkdtemp(prefix="store-")).resolve()
         self.addCleanup(shutil.rmtree, self.room)
+        # (a test that hangs ends all, and says where it was)
+        faulthandler.dump_traceback_later(5 * LIMIT, exit=True)
+        self.addCleanup(faulthandler.cancel_dump_traceback_later)
         caught, unraised = warnings.catch_warnings(), []
         caught.__enter__()
         self.addCleanup(caught.__exit__, None, None, None)
@@ -117,8 +125,9 @@ class Stores(unittest.TestCase):
         for least in 4, 9:
             wanted = [(id[: max(least, len(names[id]))], id) for id in ids]
             self.assertEqual([(name, str(id)) for name, id in store.abbreviations(least)], wanted)
-            for name, id in rng.sample(wanted, min(size, len(ids))):
-                self.assertEqual(store.abbreviate(Id(id), least), name)
+        longest = sorted(ids, key=lambda id: -len(names[id]))[: size // 4]
+        for id, least in [*itertools.product(longest, range(4, 13)), *((id, 0) for id in rng.sample(ids, min(size, len(ids))))]:
+            self.assertEqual(store.abbreviate(Id(id), least), id[: max(least, len(names[id]))])
         prefixes = [*some_prefixes(ids, 20 * size, 2)]
         given = [rng.choice((str, Prefix))(prefix) for prefix in prefixes] + [Id(id) for id in rng.sample(ids, size)]
         found = {prefix: beginning_with(ids, str(prefix)) for prefix in given}
@@ -127,7 +136,7 @@ class Stores(unittest.TestCase):
         for prefix in rng.sample(given, size):
             wanted = found[prefix]
             self.assertEqual([str(id) for id in store.find(prefix)], wanted)
-            self.assertEqual(str(prefix) in map(str, map(store.resolve, wanted)), len(str(prefix)) in (40, 64) and bool(wanted))
+            self.assertEqual(str(prefix).lower() in map(str, map(store.resolve, wanted)), len(str(prefix)) == len(ids[0]) and bool(wanted))
             if len(wanted) == 1:
                 self.assertEqual(str(store.resolve(prefix)), wanted[0])
             else:
@@ -140,6 +149,9 @@ class Stores(unittest.TestCase):
         self.assertTrue(all(Id(id) in store for id in rng.sample(ids, 5)))
         self.assertFalse(Id("1" * 40) in store or Id("1" * 64) in store or "1" * len(ids[0]) in store)
         self.assertTrue(ids[0] in store and ids[0][:7] in store)
+        other = Id(ids[0][:40] if kind == "sha256" else f"{ids[0]:0<64}")
+        self.assertFalse(other in store)
+        self.assertRaises(Missing, store.abbreviate, other)
         with self.assertRaises(TypeError):
             None in store
         self.assertEqual(store.skipped, [])
@@ -164,6 +176,12 @@ class Stores(unittest.TestCase):
         git(self.room / "work", "worktree", "add", "--quiet", "-b", "b", str(self.room / "tree"))
         (self.room / "tree" / "deep").mkdir()
         self.compare(self.room / "tree" / "deep", listed(self.room / "work"), size=5)
+        large, ids = self.blobs("large", "sha256", packed=20000)
+        self.compare(large, ids, "sha256")
+        found = {id: [Id(id)] for id in ids}
+        # (a pipe of one page has room neither for a chunk nor for its reply)
+        with mock.patch("gix_hash._store._PIPE", 4096):
+            self.assertEqual(list(self.opened(large).find_many(ids * 5)), list(found.items()) * 5)
         git(self.room, "init", "--quiet", "empty")
         self.assertEqual((list(Store(self.room / "empty")), Store(self.room / "empty").find("4b")), ([], []))
 
@@ -276,6 +294,9 @@ class Stores(unittest.TestCase):
         self.assertEqual(len(children()), 3)
         with self.assertRaises(ZeroDivisionError):
             list(store.find_many(str(1 // (5 - at)) * 4 for at in range(9)))
+        endless = itertools.count()
+        next(store.find_many(f"{at:04x}" for at in endless))
+        self.assertLess(next(endless), 17000)
 
     def test_chunks(self):
         bare, ids = self.blobs(packed=2000, loose=100)
@@ -287,6 +308,14 @@ class Stores(unittest.TestCase):
             for (prefix, found), asked in zip(store.find_many(left), given):
                 self.assertEqual((prefix, list(map(str, found))), (asked, wanted[asked]))
             self.assertEqual(list(left), [])
+        # (a short prefix counts as many, and may be the one with which a chunk is full)
+        long, short = [id[:12] for id in ids * 4], {prefix: beginning_with(ids, prefix) for prefix in (ids[7][:2], ids[7][:3], ids[7][:4])}
+        for (prefix, wanted), cost in zip(short.items(), (1024, 64, 4)):
+            for at, size in (8189, 8190), (8190, 8191), (8191, 8192), (0, 8192), (8191 - cost, 8192), (8192 - cost, 8192):
+                given = [*long[:at], prefix, *long[at + 1 : size]]
+                found = list(store.find_many(given))
+                self.assertEqual([prefix for prefix, _ in found], given)
+                self.assertEqual(list(map(str, found[at][1])), wanted)
         first, second = store.find_many([ids[0]] * 2)
         first[1].clear()
         self.assertEqual(second[1], [Id(ids[0])])
@@ -367,9 +396,8 @@ class Stores(unittest.TestCase):
             store.close()
             for thread in threads:
                 thread.join(LIMIT)
-            self.assertEqual(len(ended), len(calls))
+            self.assertEqual((len(ended), left(0)), (len(calls), []))
             self.assertRaises(ValueError, list, many)
-            self.assertEqual(left(0), [])
         files = len(os.listdir("/proc/self/fd"))
         for how in ("closed", "left", "with"):
             store = Store(bare)
@@ -506,7 +534,7 @@ class Stores(unittest.TestCase):
         for name in ("GIT_DIR", "GIT_OBJECT_DIRECTORY", "GIT_ALTERNATE_OBJECT_DIRECTORIES", "GIT_COMMON_DIR"):
             self.addCleanup(os.environ.pop, name, None)
         # (as in a hook)
-        os.environ.update(GIT_DIR=str(other), GIT_OBJECT_DIRECTORY=str(other / "objects"))
+        os.environ.update(GIT_DIR=str(other), GIT_COMMON_DIR=str(other), GIT_OBJECT_DIRECTORY=str(other / "objects"))
         os.chdir(one)
         given, ambient = self.opened("."), self.opened()
         os.chdir("/")
@@ -516,7 +544,7 @@ class Stores(unittest.TestCase):
             (place,) = store.locate(wanted[3])
             self.assertTrue(os.path.isabs(place.path) and os.path.exists(place.path))
         os.environ.update(before, PACKTOOL=program)
-        os.environ.pop("GIT_OBJECT_DIRECTORY")
+        os.environ.pop("GIT_OBJECT_DIRECTORY"), os.environ.pop("GIT_COMMON_DIR")
         os.environ["GIT_DIR"] = str(one)
         os.environ["GIT_ALTERNATE_OBJECT_DIRECTORIES"] = str(other / "objects")
         self.assertEqual([str(id) for id in self.opened()], sorted({*ids, *others}))
@@ -542,27 +570,29 @@ class Stores(unittest.TestCase):
         bare, ids = self.blobs(packed=50, loose=5)
         program, path = os.environ["PACKTOOL"], os.environ["PATH"]
         self.addCleanup(os.environ.update, PACKTOOL=program, PATH=path)
-        (self.room / "old").write_text("#!/bin/sh\necho packtool 0.4.9 of Nunbirdstand\n")
-        (self.room / "old").chmod(0o755)
+        right = subprocess.run([program, "--version"], stdout=subprocess.PIPE, encoding="ascii", check=True).stdout.strip()
         old, wanted = str(self.room / "old"), r": set PACKTOOL to the absolute path of packtool \d+\.\d+$"
         for given, why in [
-            *((it, f"{it}: no working packtool") for it in ("/bin/cat", "/nowhere", "/", str(bare / "HEAD"))),
-            (old, f"{old}: this is packtool 0.4.9 of Nunbirdstand"), ("", "packtool: not on the PATH"),
-            ("false", "/false: no working packtool"), ("nowhere", "nowhere: not on the PATH"),
+            ("/bin/cat", "/bin/cat: no working packtool"), ("/nowhere", r"/nowhere: no working packtool \(No such file or directory\)"),
+            *((it, rf"{it}: no working packtool \(Permission denied\)") for it in ("/", str(bare / "HEAD"))),
+            ("", "packtool: not on the PATH"), ("false", "/false: no working packtool"), ("nowhere", "nowhere: not on the PATH"),
             ("./packtool", r"\./packtool: not an absolute path"),
+            *((old, f"{old}: this is {said}") for said in ("packtool 0.4.9 of Nunbirdstand", re.sub(r"(\.\d+)\.", r"\g<1>0.", right))),
         ]:  # fmt: skip
+            (self.room / "old").write_text(f"#!/bin/sh\necho {why.partition('this is ')[2]}\n")
+            (self.room / "old").chmod(0o755)
             os.environ.update(PACKTOOL=given, PATH=path if given else "")
             self.assertRaisesRegex(StoreError, why + wanted, Store, bare)
-        # (the beginning of a line is none, and what is said last is the error)
-        for names, wanted in (
-            ("printf '0000 01'; kill -9 $$", "packtool was ended by the signal 9"),
-            ("echo packtool: /x: no >&2; echo packtool: /y: gone >&2; exit 2", "/y: gone"),
-        ):  # fmt: skip
-            (self.room / "wrong").write_text(f'#!/bin/sh\ncase $1 in abbreviate) {names} ;; *) exec {program} "$@" ;; esac\n')
-            (self.room / "wrong").chmod(0o755)
-            os.environ.update(PACKTOOL=str(self.room / "wrong"), PATH=path)
-            with Store(bare) as store, self.assertRaisesRegex(StoreError, f"^{wanted}$"):
-                list(store.abbreviations())
+        # (a program that is wrong now may be right later)
+        (self.room / "old").unlink()
+        (self.room / "old").symlink_to(os.path.abspath(program))
+        os.environ.update(PACKTOOL=old, PATH=path)
+        limits = resource.getrlimit(resource.RLIMIT_NOFILE)
+        resource.setrlimit(resource.RLIMIT_NOFILE, (len(os.listdir("/proc/self/fd")) - 1, limits[1]))
+        self.addCleanup(resource.setrlimit, resource.RLIMIT_NOFILE, limits)
+        self.assertRaisesRegex(StoreError, r"no working packtool \(Too many open files\)", Store, bare)
+        resource.setrlimit(resource.RLIMIT_NOFILE, limits)
+        self.assertEqual(Store(bare).find(ids[0]), [Id(ids[0])])
         directory = self.room / "bin"
         directory.mkdir()
         (directory / "packtool").symlink_to(os.path.abspath(program))
@@ -570,6 +600,34 @@ class Stores(unittest.TestCase):
             os.environ.update(PACKTOOL=given, PATH="/" if "/" in given else f"/nowhere:{directory}")
             self.assertEqual(self.opened(bare).find(ids[0]), [Id(ids[0])])
         self.assertEqual(len(children()), 3)
+
+    def test_beside(self):
+        """The program beside the module is run, but no directory of its name."""
+        bare, ids = self.blobs(packed=50, loose=5)
+        package, program = self.room / "gix_hash", os.path.abspath(os.environ["PACKTOOL"])
+        shutil.copytree(pathlib.Path(sys.modules["gix_hash"].__file__).parent, package)
+        words = f"import gix_hash; assert len(gix_hash.Store({str(bare)!r}).find({ids[0]!r})) == 1"
+        how = {"cwd": self.room, "check": True}
+        (package / "packtool").symlink_to(program)
+        subprocess.run([sys.executable, "-c", words], env={**os.environ, "PACKTOOL": "", "PATH": "/nowhere"}, **how)
+        (package / "packtool").rename(self.room / "packtool")
+        (package / "packtool").mkdir()
+        subprocess.run([sys.executable, "-c", words], env={**os.environ, "PACKTOOL": "", "PATH": str(self.room)}, **how)
+
+    def test_bad_moments(self):
+        self.addCleanup(os.environ.update, PACKTOOL=os.environ["PACKTOOL"])
+        os.environ["PACKTOOL"] = FAKE
+        store = self.opened(self.room)
+        for call in store.find, store.locate, lambda it: list(store.find_many(["bb", it, "cc"])):
+            self.assertRaisesRegex(StoreError, "^packtool printed too few lines$", call, "a0")
+            self.assertRaisesRegex(StoreError, "^/f: not read$", call, "a4")
+        # (the mark at its end comes in two parts)
+        self.assertEqual((store.find("a3"), list(store.find_many(["a3"]))), ([], [("a3", [])]))
+        self.assertEqual((store.find("a1"), store.skipped), ([], ["/e: gone, skipped", "/g: gone, skipped"]))
+        self.assertRaisesRegex(SkippedWarning, "^/half: gone, skipped$", store.find, "a2")
+        for least, why in (4, "/c: not read"), (5, "packtool was ended by the signal 9"):
+            with self.assertRaisesRegex(StoreError, f"^{why}$"):
+                list(store.abbreviations(least))
 
     def test_programs_of_others(self):
         """What is in the current directory or in the repository is not run, whatever the variables have beside it."""
@@ -584,6 +642,7 @@ class Stores(unittest.TestCase):
         directory = self.room / "bin"
         directory.mkdir()
         (directory / "packtool").symlink_to(program)
+        shutil.copyfile(bare / "packtool", self.room / "packtool")  # (without the right to execute it)
         paths = ["/nowhere", "", ":", ":/nowhere", "/nowhere:", "/nowhere::/", ".", "bin", "./bin/", "../store/bin", "~"]
         for here in bare, self.room:
             os.chdir(here)
@@ -592,7 +651,7 @@ class Stores(unittest.TestCase):
                     os.environ.update(PACKTOOL=given, PATH=path)
                     self.assertRaisesRegex(StoreError, "not on the PATH|not an absolute path", Store, bare)
                 # (it goes on behind what is left out)
-                os.environ.update(PACKTOOL="", PATH=f"{path}:{directory}")
+                os.environ.update(PACKTOOL="", PATH=f"{path}:{self.room}:{directory}")
                 with Store(bare) as store:
                     self.assertEqual(store.find(ids[0]), [Id(ids[0])])
         self.assertFalse(mark.exists())
@@ -617,7 +676,17 @@ class Stores(unittest.TestCase):
         (bare / "config").write_text("[core]\n\trepositoryformatversion = 9\n")
         with self.assertRaisesRegex(StoreError, "config: "):
             Store(bare)
-        self.assertEqual([str(id) for id in self.opened(self.blobs("own", "sha1", packed=9, loose=1)[0], 1)], listed(self.room / "own"))
+        own, ids = self.blobs("own", packs=0, loose=9)
+        self.assertEqual([str(id) for id in self.opened(own, 1)], ids)
+        self.assertEqual([(it.kind, list(it), it.find(ids[0])) for it in [self.opened(own, "sha256")]], [(Kind.SHA256, [], [])])
+        self.addCleanup(os.chdir, os.getcwd())
+        os.chdir(self.room / "none")
+        (self.room / "none").rmdir()
+        for given in (), (".",), ("x",):
+            with self.assertRaises(StoreError) as raised:
+                Store(*given)
+            self.assertEqual((raised.exception.errno, raised.exception.__suppress_context__), (errno.ENOENT, True))
+        self.assertEqual(self.opened(own).find(ids[0]), [Id(ids[0])])
 
     def test_gone(self):
         """A repository that is gone is a StoreError each time, and found again if it comes back."""

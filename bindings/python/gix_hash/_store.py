@@ -2,7 +2,6 @@
 
 import contextlib
 import fcntl
-import functools
 import itertools
 import operator
 import os
@@ -34,6 +33,8 @@ _F_SETPIPE_SZ = 1031  # (fcntl has it from Python 3.10 on)
 _VARIABLES = {"GIT_DIR", "GIT_COMMON_DIR", "GIT_OBJECT_DIRECTORY", "GIT_ALTERNATE_OBJECT_DIRECTORIES"}
 _ESCAPES = {"n": "\n", "r": "\r"}
 _BESIDE = os.path.join(os.path.dirname(os.path.abspath(__file__)), "packtool")
+# The programs that have printed the right version. (One that has not is asked again: it may be installed meanwhile.)
+_WORKING: Set[str] = set()
 _are_lines = re.compile("(?:[0-9A-Fa-f]{2,64}\n)+").fullmatch
 
 
@@ -99,16 +100,13 @@ def _unescaped(line: str) -> str:
 def _program() -> str:
     """The absolute path of packtool: what the variable PACKTOOL names, or else what is beside this module, or else on the PATH. No
     relative path is followed, since it would lead into the current directory, whose files others may have written."""
-    given = os.environ.get("PACKTOOL") or (_BESIDE if os.path.exists(_BESIDE) else "packtool")
+    given = os.environ.get("PACKTOOL") or (_BESIDE if os.path.isfile(_BESIDE) else "packtool")
     path, wanted = given if os.path.dirname(given) else _on_path(given), f"packtool {__version__.rpartition('.')[0]}"
-    said = _version(path) if os.path.isabs(path) else ""
-    if said.startswith(f"{wanted}."):
-        return path
-    if not os.path.isabs(path):
-        why = "not an absolute path" if path else "not on the PATH"
-    else:
-        why = f"this is {said}" if said.startswith("packtool ") else "no working packtool"
-    raise StoreError(f"{path or given}: {why}: set PACKTOOL to the absolute path of {wanted}")
+    if path not in _WORKING:
+        if why := _refusal(path, wanted):
+            raise StoreError(f"{path or given}: {why}: set PACKTOOL to the absolute path of {wanted}")
+        _WORKING.add(path)
+    return path
 
 
 def _on_path(name: str) -> str:
@@ -117,13 +115,20 @@ def _on_path(name: str) -> str:
     return shutil.which(name, path=os.pathsep.join(entries)) or ""
 
 
-@functools.lru_cache(maxsize=None)
-def _version(path: str) -> str:
-    """The line that a program prints of its version, or nothing if it cannot be run."""
-    with contextlib.suppress(OSError, subprocess.TimeoutExpired):
+def _refusal(path: str, wanted: str) -> str:
+    """Why a program is not the one that is wanted, by the line that it prints of its version, or nothing if it is."""
+    if not os.path.isabs(path):
+        return "not an absolute path" if path else "not on the PATH"
+    try:
         said = subprocess.run([path, "--version"], stdin=subprocess.DEVNULL, capture_output=True, timeout=10).stdout
-        return said.decode("utf-8", "replace").partition("\n")[0]
-    return ""
+    except OSError as error:
+        return f"no working packtool ({error.strerror})"
+    except subprocess.TimeoutExpired:
+        return "no working packtool (it takes too long to print its version)"
+    line = said.decode("utf-8", "replace").partition("\n")[0]
+    if line.startswith(f"{wanted}."):
+        return ""
+    return f"this is {line}" if line.startswith("packtool ") else "no working packtool"
 
 
 def _finish(child: "subprocess.Popen[bytes]", files: List[Any], owner: int) -> None:
@@ -306,7 +311,8 @@ class Store(contextlib.AbstractContextManager["Store"]):
 
     A prefix has 2 hex digits or more in either case, and is a str, a Prefix or an Id. The error of a wrong prefix is that of
     Prefix, BAD_LENGTH for one digit, or PREFIX_TOO_LONG. If the store cannot be read, the error is a StoreError, and if it is
-    closed, a ValueError. If a part of the store is left out, the first look-up that meets it warns once, by SkippedWarning.
+    closed, or its path has a NUL, a ValueError. If a part of the store is left out, the first look-up that meets it warns once, by
+    SkippedWarning.
 
     Threads may share a store, which does one look-up of each kind at a time. A forked process may go on with it.
     """
@@ -314,7 +320,10 @@ class Store(contextlib.AbstractContextManager["Store"]):
     def __init__(self, path: "Union[str, bytes, os.PathLike[Any], None]" = None, kind: "Union[Kind, str, None]" = None) -> None:
         self._closed, self._program = False, _program()
         self._options = [] if kind is None else ["--kind", str(_kind(kind))]
-        self._directory = os.path.abspath(os.fsdecode("." if path is None else path))
+        try:
+            self._directory = os.path.abspath(os.fsdecode("." if path is None else path))
+        except OSError as error:  # (the current directory was removed)
+            raise StoreError(error.errno, error.strerror) from None
         self._name = os.fsencode(self._directory).decode("utf-8", "replace")
         self._environment = {name: text for name, text in os.environ.items() if path is None or name not in _VARIABLES}
         self._skipped: Dict[str, object] = {}
@@ -407,6 +416,8 @@ class Store(contextlib.AbstractContextManager["Store"]):
                 process = self._idle.pop(key, None) or self._begin(command, "--stdin", is_bulk=False)
                 process.send(f"{line}\n")
                 reply, new = self._receive(process)
+                if not reply:
+                    raise StoreError("packtool printed too few lines")
             except BaseException:  # (the rest of a reply would be taken for the next one)
                 if process:
                     self._end(process)
@@ -517,6 +528,8 @@ class Store(contextlib.AbstractContextManager["Store"]):
         found = _ids_by_line(reply)
         for prefix, line in chunk:
             _check(Code.PREFIX_TOO_LONG if len(line) > 2 * self._kind.len_in_bytes else 0, digits=line)
+            if line not in found:
+                raise StoreError("packtool printed too few lines")
             yield prefix, found[line][:]  # (a prefix may be given twice)
 
 
