@@ -3,14 +3,15 @@
 use crate::{Code, Error, Id, Kind, Prefix};
 use std::collections::{HashMap, VecDeque};
 use std::ffi::OsString;
-use std::fs::{self, File, OpenOptions};
+use std::fs::{self, File};
 use std::io::{self, BufRead, BufReader, Write};
+use std::os::raw::{c_char, c_int, c_uint};
 use std::os::unix::ffi::OsStringExt;
-use std::os::unix::fs::{FileExt, OpenOptionsExt, PermissionsExt};
+use std::os::unix::fs::{FileExt, PermissionsExt};
+use std::os::unix::io::FromRawFd;
 use std::os::unix::process::{CommandExt, ExitStatusExt};
 use std::path::{Path, PathBuf};
 use std::process::{Child, ChildStdin, ChildStdout, Command, Output, Stdio};
-use std::sync::atomic::{AtomicU64, Ordering};
 use std::sync::mpsc::{sync_channel, SyncSender};
 use std::sync::{Mutex, MutexGuard, PoisonError};
 use std::{env, fmt, thread};
@@ -284,14 +285,18 @@ impl Store {
             // (if this fails, the process has ended, and has said why)
             let _ = input.write_all(format!("{asked}\n\n").as_bytes());
         }
-        let (mut found, mut is_bad) = (Vec::new(), false);
+        let (mut found, mut is_bad, mut is_answered) = (Vec::new(), false, false);
         while let Some(line) = process.line()? {
             if line == MARK {
                 self.heed(&mut process)?;
+                if !is_answered {
+                    return Err(too_few_lines());
+                }
                 *resting = Some(process);
                 let error = Error { code: Code::PrefixTooLong, detail: 0 };
                 return if is_bad { Err(StoreError::Prefix { prefix: *prefix, error }) } else { Ok(found) };
             }
+            is_answered = true;
             match line.strip_prefix(asked.as_bytes()).and_then(|rest| rest.strip_prefix(b" ")) {
                 Some(b"missing") => {}
                 Some(b"bad") => is_bad = true,
@@ -376,8 +381,7 @@ impl<I: Iterator<Item = Prefix>> FindMany<'_, I> {
                 self.store.heed(process)?;
                 let pair = |(prefix, at): (Prefix, usize)| Some((prefix, found.get(at)?.clone()));
                 let pairs: Option<VecDeque<_>> = chunk.prefixes.into_iter().map(pair).collect();
-                let pairs = pairs.ok_or(StoreError::Failed("packtool printed too few lines".to_owned()))?;
-                self.ready = pairs.into_iter();
+                self.ready = pairs.ok_or_else(too_few_lines)?.into_iter();
                 return Ok(true);
             }
             // What is printed has the order of the lines, of which no two are equal.
@@ -449,8 +453,8 @@ impl Chunk {
     }
 }
 
-// A `packtool` that runs, and ends with this. Its messages go to a file without a name, so it never waits for someone to
-// read them.
+// A `packtool` that runs, and ends with this. Its messages go to a file in memory, so it never waits for someone to read
+// them.
 struct Process {
     child: Child,
     input: Option<ChildStdin>,
@@ -461,7 +465,7 @@ struct Process {
 
 impl Process {
     fn new(store: &Store, words: &[&str]) -> Result<Process> {
-        let notes = unnamed_file()?;
+        let notes = file_in_memory()?;
         let mut command = Command::new(&store.program);
         // (in a group of its own, since Ctrl-C is sent to all processes of a terminal's group)
         command.args(words).args(&store.options).current_dir(&store.directory).process_group(0);
@@ -505,15 +509,18 @@ impl Drop for Process {
     }
 }
 
-// A file that nothing else can open.
-fn unnamed_file() -> Result<File> {
-    static COUNT: AtomicU64 = AtomicU64::new(0);
-    let name = format!(".packtool-{}-{}", std::process::id(), COUNT.fetch_add(1, Ordering::Relaxed));
-    let path = env::temp_dir().join(name);
-    let options = OpenOptions::new().read(true).append(true).create_new(true).mode(0o600).to_owned();
-    let file = options.open(&path).map_err(|error| named(&path, &error))?;
-    fs::remove_file(&path)?;
-    Ok(file)
+// A file in memory: no directory has to be writable for it, and it has no name that others can take.
+fn file_in_memory() -> io::Result<File> {
+    const CLOSE_ON_EXEC: c_uint = 1;
+    extern "C" {
+        fn memfd_create(name: *const c_char, flags: c_uint) -> c_int;
+    }
+    // SAFETY: the name ends in a zero.
+    match unsafe { memfd_create(b"packtool\0".as_ptr().cast(), CLOSE_ON_EXEC) } {
+        -1 => Err(io::Error::last_os_error()),
+        // SAFETY: the descriptor is new, so nothing else has it.
+        descriptor => Ok(unsafe { File::from_raw_fd(descriptor) }),
+    }
 }
 
 // The absolute path of `packtool`, of this crate's version. No relative path is followed, since it would lead into the current
@@ -521,7 +528,7 @@ fn unnamed_file() -> Result<File> {
 fn program() -> Result<PathBuf> {
     let beside = || env::current_exe().map(|path| path.with_file_name("packtool")).ok();
     let named = env::var_os("PACKTOOL").filter(|path| !path.is_empty()).map(PathBuf::from);
-    let given = named.or_else(|| beside().filter(|path| path.exists())).unwrap_or("packtool".into());
+    let given = named.or_else(|| beside().filter(|path| path.is_file())).unwrap_or("packtool".into());
     let path =
         if given.file_name() == Some(given.as_os_str()) { on_path(&given) } else { Some(given.clone()) };
     let wanted = concat!("packtool ", env!("CARGO_PKG_VERSION_MAJOR"), ".", env!("CARGO_PKG_VERSION_MINOR"));
@@ -555,6 +562,10 @@ fn on_path(name: &Path) -> Option<PathBuf> {
     env::split_paths(&entries)
         .map(|entry| entry.join(name))
         .find(|path| path.is_absolute() && is_program(path))
+}
+
+fn too_few_lines() -> StoreError {
+    StoreError::Failed("packtool printed too few lines".to_owned())
 }
 
 fn named(path: &Path, error: &io::Error) -> io::Error {

@@ -1,6 +1,7 @@
 //! Stores beside Git. They need `packtool`, of which `PACKTOOL` is the path: `cargo test --test store -- --include-ignored`.
 
 use nunbirdstand::{Code, Id, Kind, Location, Prefix, Store, StoreError};
+use std::cell::Cell;
 use std::collections::BTreeMap;
 use std::env;
 use std::ffi::{OsStr, OsString};
@@ -30,15 +31,20 @@ fn words(text: &str) -> Vec<&OsStr> {
     text.split(' ').map(OsStr::new).collect()
 }
 
-/// A bare repository of packed and loose blobs, and their sorted ids.
+/// A bare repository of some packs of 300 blobs and 30 loose blobs, and their sorted ids.
 fn made(name: impl AsRef<OsStr>, kind: Kind, packs: usize) -> (PathBuf, Vec<Id>) {
+    made_of(name, kind, packs, 300)
+}
+
+/// The same with packs of that many blobs.
+fn made_of(name: impl AsRef<OsStr>, kind: Kind, packs: usize, blobs: usize) -> (PathBuf, Vec<Id>) {
     let top = Path::new(env!("CARGO_TARGET_TMPDIR")).canonicalize().unwrap();
     let path = top.join(Path::new(name.as_ref()));
     let _ = fs::remove_dir_all(&path);
     fs::create_dir_all(&path).unwrap();
     git(&path, &words(&format!("init -q --bare --object-format={kind}")), "");
     for pack in 0..packs {
-        let blobs: String = (1000..1300).map(|n| format!("blob\ndata 6\n{pack:02}{n}\n")).collect();
+        let blobs: String = (0..blobs).map(|n| format!("blob\ndata 7\n{pack:02}{n:05}\n")).collect();
         git(&path, &words("-c fastimport.unpackLimit=0 fast-import --quiet"), &blobs);
     }
     for n in 0..30 {
@@ -116,7 +122,17 @@ fn found_by_another(
     path: Option<&Path>,
     variables: &[(&str, &OsStr)],
 ) -> Result<Vec<Id>, String> {
-    let mut test = Command::new(env::current_exe().unwrap());
+    found_by(&env::current_exe().unwrap(), directory, path, variables)
+}
+
+/// The same by this program, which may be a copy.
+fn found_by(
+    program: &Path,
+    directory: &Path,
+    path: Option<&Path>,
+    variables: &[(&str, &OsStr)],
+) -> Result<Vec<Id>, String> {
+    let mut test = Command::new(program);
     test.args(["--exact", "is_another", "--include-ignored", "--nocapture"]).current_dir(directory);
     let output = test.env("IS_ANOTHER", path.unwrap_or(Path::new(""))).envs(variables.to_vec()).output();
     let printed = String::from_utf8(output.unwrap().stdout).unwrap();
@@ -134,6 +150,8 @@ fn found_by_another(
 fn is_another() {
     let Some(path) = env::var_os("IS_ANOTHER") else { return };
     let store = if path.is_empty() { Store::from_env(None) } else { Store::open(path, None) };
+    // (a store stays in the directory in which it was opened)
+    env::set_current_dir("/").unwrap();
     println!();
     match store.and_then(|store| store.abbreviations(4)?.collect::<Result<Vec<_>, _>>()) {
         Ok(names) => names.iter().for_each(|(_, id)| println!("id: {id}")),
@@ -384,10 +402,15 @@ fn surroundings() {
     ] {
         assert_eq!(&found_by_another(directory, path, variables).unwrap(), wanted);
     }
+    // (no directory has to be writable)
+    let nowhere = ("TMPDIR", OsStr::new("/nowhere"));
+    assert_eq!(found_by_another(top, Some(&one), &[nowhere]).unwrap(), ids);
     assert_eq!(Store::open(&one, Some(Kind::Sha256)).unwrap().kind(), Kind::Sha256);
+    let tenfold = concat!(env!("CARGO_PKG_VERSION_MAJOR"), ".", env!("CARGO_PKG_VERSION_MINOR"), "0.0");
     for (version, why) in [
         ("packtool 0.4.9 of Nunbirdstand", "this is packtool 0.4.9 of Nunbirdstand"),
         ("packtool 10.6.0", "this is packtool 10.6.0"),
+        (&format!("packtool {tenfold}"), &format!("this is packtool {tenfold}")),
         ("packtool", "no working packtool"),
         ("git version 2.39.5", "no working packtool"),
     ] {
@@ -396,16 +419,91 @@ fn surroundings() {
         let error = found_by_another(top, Some(&one), &[("PACKTOOL", program.as_os_str())]).unwrap_err();
         assert!(error.starts_with(&format!("{}: {why}: set PACKTOOL to ", program.display())), "{error}");
     }
-    // (the beginning of a line is none, and what is said last is the error)
-    for (names, wanted) in [
-        ("printf '0000 01'; kill -9 $$", "packtool was ended by the signal 9"),
-        ("echo packtool: /x: no >&2; echo packtool: /y: gone >&2; exit 2", "/y: gone"),
-    ] {
-        let (program, right) = (one.join("old/packtool"), env::var("PACKTOOL").unwrap());
-        script(&program, &format!("case $1 in abbreviate) {names} ;; *) exec '{right}' \"$@\" ;; esac"));
-        let error = found_by_another(top, Some(&one), &[("PACKTOOL", program.as_os_str())]).unwrap_err();
-        assert_eq!(error, wanted);
+}
+
+/// What packtool does only in a bad moment, by a program that does so.
+#[test]
+#[ignore = "needs packtool"]
+fn bad_moments() {
+    let fake = Path::new(env!("CARGO_MANIFEST_DIR")).join("../fake_packtool");
+    if env::var_os("PACKTOOL").unwrap() != fake {
+        // (the variable is for a process of its own)
+        let mut test = Command::new(env::current_exe().unwrap());
+        test.args(["--exact", "bad_moments", "--include-ignored"]).env("PACKTOOL", fake);
+        return assert!(test.status().unwrap().success());
     }
+    let store = Store::open("/", None).unwrap();
+    for (text, why) in [("a0", "packtool printed too few lines"), ("a4", "/f: not read")] {
+        let (asked, given) = (prefix(text), ["bb", text, "cc"].map(prefix));
+        let of_many = store.find_many(given).unwrap().find_map(Result::err);
+        for error in [store.find(&asked).err(), store.locate(&asked).err(), of_many] {
+            assert_eq!(error.unwrap().to_string(), why);
+        }
+    }
+    assert_eq!(store.skipped(), ["/e: gone, skipped", "/g: gone, skipped"]);
+    for (text, parts) in [("a3", 2), ("a1", 2), ("a2", 3)] {
+        assert_eq!((store.find(&prefix(text)).unwrap(), store.skipped().len()), (vec![], parts));
+    }
+    assert_eq!(store.skipped()[2], "/half: gone, skipped");
+    for (least, why) in [(4, "/c: not read"), (5, "packtool was ended by the signal 9")] {
+        let errors = store.abbreviations(least).unwrap().filter_map(Result::err);
+        assert_eq!(errors.map(|it| it.to_string()).collect::<Vec<_>>(), [why]);
+    }
+}
+
+/// The number of first digits that two ids share.
+fn shared(one: &Id, other: &Id) -> usize {
+    one.to_string().bytes().zip(other.to_string().bytes()).take_while(|(a, b)| a == b).count()
+}
+
+/// A store of more ids than a pipe has room for.
+#[test]
+#[ignore = "needs packtool"]
+fn many_ids() {
+    let (path, ids) = made_of("many", Kind::Sha256, 2, 10_000);
+    let store = Store::open(&path, None).unwrap();
+    let names = collected(store.abbreviations(4).unwrap());
+    assert!(names.iter().map(|it| it.1).eq(ids.iter().copied()));
+    for (at, (name, id)) in names.iter().enumerate() {
+        let neighbours = [at.checked_sub(1), Some(at + 1)].into_iter().flatten();
+        let most = neighbours.filter_map(|at| ids.get(at)).map(|other| shared(id, other)).max();
+        assert_eq!(name[..], id.to_string()[..most.map_or(4, |most| most + 1).max(4)]);
+        for least in if name.len() > 6 { 4..13 } else { 0..0 } {
+            assert_eq!(store.abbreviate(id, least).unwrap(), id.to_string()[..name.len().max(least)]);
+        }
+    }
+    let given = || ids.iter().cycle().take(100_000).copied();
+    let found = collected(store.find_many(given().map(Prefix::from)).unwrap());
+    assert!(found.into_iter().eq(given().map(|id| (id.into(), vec![id]))));
+    // (an id of the other kind is none, also if an id begins with it)
+    let other = ids[0].to_string()[..40].parse::<Id>().unwrap();
+    assert!(!store.contains(&other).unwrap());
+    assert!(matches!(store.abbreviate(&other, 4), Err(StoreError::Missing { .. })));
+    full_chunks(&store, &ids);
+    drop(store);
+    assert_eq!(fs::read_to_string("/proc/thread-self/children").unwrap(), "");
+}
+
+/// A short prefix counts as many, and may be the one with which a chunk is full.
+fn full_chunks(store: &Store, ids: &[Id]) {
+    let long: Vec<Prefix> = ids.iter().map(|id| prefix(&id.to_string()[..12])).collect();
+    for (digits, cost) in [(2, 1024), (3, 64), (4, 4)] {
+        let short = prefix(&ids[7].to_string()[..digits]);
+        let wanted = beginning_with(ids, &short);
+        for (at, size) in
+            [(8189, 8190), (8190, 8191), (8191, 8192), (0, 8192), (8191 - cost, 8192), (8192 - cost, 8192)]
+        {
+            let mut given = long[..size].to_vec();
+            given[at] = short;
+            let found = collected(store.find_many(given.clone()).unwrap());
+            assert!(found.iter().map(|it| it.0).eq(given));
+            assert_eq!(found[at].1, wanted);
+        }
+    }
+    let taken = Cell::new(0);
+    let endless = (0..).inspect(|&at| taken.set(at)).map(|at| prefix(&format!("{at:08x}")));
+    store.find_many(endless).unwrap().next().unwrap().unwrap();
+    assert!(taken.get() < 17_000);
 }
 
 #[test]
@@ -516,6 +614,9 @@ fn programs_of_others() {
     let _ = fs::remove_dir_all(&directory);
     fs::create_dir(&directory).unwrap();
     symlink(&program, directory.join("packtool")).unwrap();
+    let locked = path.join("locked");
+    script(&locked.join("packtool"), &format!(": > '{}'", mark.display()));
+    fs::set_permissions(locked.join("packtool"), Permissions::from_mode(0o644)).unwrap();
     let (other, relative) = (path.parent().unwrap(), ["./packtool", "bin/packtool", "others/packtool"]);
     for paths in ["/nowhere", "", ":", ":/nowhere", "/nowhere:", ".", "bin", "./bin/", "others/bin"] {
         for (directory, given) in
@@ -525,10 +626,22 @@ fn programs_of_others() {
             let error = found_by_another(directory, Some(&path), &variables).unwrap_err();
             assert!(error.starts_with("packtool: not on the PATH: "), "{error}");
         }
-        // (it goes on behind what is left out)
-        let paths = format!("{paths}:{}", directory.display());
+        // (it goes on behind what is left out, and behind a file that may not be run)
+        let paths = format!("{paths}:{}:{}", locked.display(), directory.display());
         let variables = [("PACKTOOL", OsStr::new("")), ("PATH", OsStr::new(&paths))];
         assert_eq!(found_by_another(&path, Some(&path), &variables).unwrap(), ids);
+    }
+    // (the program beside this one is run, but no directory of its name)
+    let (beside, test) = (directory.join("packtool"), directory.join("test"));
+    fs::hard_link(env::current_exe().unwrap(), &test).unwrap();
+    for paths in ["/nowhere", directory.join("moved").to_str().unwrap()] {
+        let variables = [("PACKTOOL", OsStr::new("")), ("PATH", OsStr::new(paths))];
+        assert_eq!(found_by(&test, &path, Some(&path), &variables).unwrap(), ids);
+        if paths == "/nowhere" {
+            fs::create_dir(directory.join("moved")).unwrap();
+            fs::rename(&beside, directory.join("moved/packtool")).unwrap();
+            fs::create_dir(&beside).unwrap();
+        }
     }
     for (directory, given) in [&*path, other].iter().flat_map(|it| relative.map(|given| (it, given))) {
         let error = found_by_another(directory, Some(&path), &[("PACKTOOL", OsStr::new(given))]).unwrap_err();
