@@ -240,9 +240,10 @@ uint32_t gix_hash_check_sorted(uint32_t kind, const uint8_t *table, size_t len, 
 GIX_HASH_READS(2, 3) GIX_HASH_READS(4) GIX_HASH_WRITES(5)
 uint32_t gix_hash_find(uint32_t kind, const uint8_t *table, size_t len, const gix_hash_prefix *prefix, gix_hash_run *run);
 
-/* Gets the kind of which the bytes are a pack index (SHA-1, if they are one of both kinds). Checks them
- * whole, for one kind and then for the other.
- * Returns GIX_HASH_OK, or the code of gix_hash_pack_check for GIX_HASH_SHA1. */
+/* Gets the kind of which the bytes are a pack index, and checks them whole. By their length they can be
+ * one of at most one kind.
+ * Returns GIX_HASH_OK, or the code of gix_hash_pack_check: for GIX_HASH_SHA256 if gix_hash_pack_count
+ * returns GIX_HASH_OK for that kind, and otherwise for GIX_HASH_SHA1. */
 GIX_HASH_READS(1, 2) GIX_HASH_WRITES(3)
 uint32_t gix_hash_pack_kind(const uint8_t *bytes, size_t len, uint32_t *kind);
 

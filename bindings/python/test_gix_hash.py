@@ -6,6 +6,7 @@ import collections
 import contextlib
 import copy
 import doctest
+import functools
 import hashlib
 import io
 import mmap
@@ -325,7 +326,9 @@ class Bindings(unittest.TestCase):
             for call in (index.id, index.abbreviate):
                 self.assertRaises(IndexError, call, len(index))
             self.fails(Code.OTHER_KIND, kind, PackIndex, 3 - kind, data)
-            self.fails(Code.WRONG_CHECKSUM, 0, PackIndex, kind, data[:-1] + bytes([data[-1] ^ 1]))
+            for call in functools.partial(PackIndex, kind), PackIndex.of_any_kind, PackIndex.kind_of:
+                self.fails(Code.WRONG_CHECKSUM, 0, call, data[:-1] + bytes([data[-1] ^ 1]))
+                self.fails(Code.NAMES_FALL, 1, call, data[:1032] + b"\xff" + data[1033:])
             self.fails(Code.BAD_VERSION, 9, PackIndex, kind, data[:7] + b"\x09" + data[8:])
             self.fails(Code.BAD_VERSION, 9, PackIndex.kind_of, data[:7] + b"\x09" + data[8:])
             self.assertNotIn(index[0]._replace(crc=index[0].crc ^ 1), index)

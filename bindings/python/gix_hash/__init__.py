@@ -635,7 +635,8 @@ class PackIndex(_Table[Entry]):
         """The kind of the ids of a pack index, which is checked whole. The error is one from INDEX_TOO_SHORT to WRONG_CHECKSUM."""
         (held, *given), kind = _bytes(data), ctypes.c_uint32()
         if _lib.gix_hash_pack_kind(*given, kind):
-            PackIndex(Kind.SHA1, data)  # raises the same error, with its detail
+            is_sha256 = not _lib.gix_hash_pack_count(Kind.SHA256, *given, ctypes.c_size_t())
+            PackIndex(Kind.SHA256 if is_sha256 else Kind.SHA1, data)  # raises the same error, with its detail
         return Kind(kind.value)
 
     def __len__(self) -> int:

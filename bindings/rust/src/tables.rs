@@ -144,6 +144,7 @@ impl<'a> PackIndex<'a> {
         match code {
             0 => Ok(PackIndex { kind: Kind::of(number), bytes }),
             // This is the same error, with its detail.
+            _ if PackIndex::count(Kind::Sha256, bytes).is_some() => PackIndex::new(Kind::Sha256, bytes),
             _ => PackIndex::new(Kind::Sha1, bytes),
         }
     }
@@ -157,11 +158,15 @@ impl<'a> PackIndex<'a> {
     /// The number of objects.
     #[must_use]
     pub fn len(&self) -> usize {
-        let (kind, bytes, mut count) = (self.kind as u32, self.bytes, 0);
+        PackIndex::count(self.kind, self.bytes).unwrap_or(0)
+    }
+
+    // The number of objects, if the header and the lengths of the tables are those of an index of the kind.
+    fn count(kind: Kind, bytes: &[u8]) -> Option<usize> {
+        let mut count = 0;
         // SAFETY: the slice is valid for its length.
-        let code = unsafe { raw::gix_hash_pack_count(kind, bytes.as_ptr(), bytes.len(), &mut count) };
-        debug_assert_eq!(code, 0);
-        count
+        let code = unsafe { raw::gix_hash_pack_count(kind as u32, bytes.as_ptr(), bytes.len(), &mut count) };
+        (code == 0).then_some(count)
     }
 
     /// Whether there is none.

@@ -183,9 +183,17 @@ fn indexes() {
             PackIndex::new(other, &bytes).unwrap_err(),
             Error { code: Code::OtherKind, detail: kind as u64 }
         );
-        bytes[7] = 9;
-        assert_eq!(PackIndex::of_any_kind(&bytes).unwrap_err(), Error { code: Code::BadVersion, detail: 9 });
-        assert_eq!(PackIndex::new(kind, &bytes).unwrap_err(), Error { code: Code::BadVersion, detail: 9 });
+        for (at, code, detail) in [
+            (bytes.len() - 1, Code::WrongChecksum, 0),
+            (1032, Code::NamesFall, 1),
+            (7, Code::BadVersion, 0xfd),
+        ] {
+            bytes[at] ^= 0xff;
+            for result in [PackIndex::new(kind, &bytes), PackIndex::of_any_kind(&bytes)] {
+                assert_eq!(result.unwrap_err(), Error { code, detail });
+            }
+            bytes[at] ^= 0xff;
+        }
     }
 }
 

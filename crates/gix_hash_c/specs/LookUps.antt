@@ -79,16 +79,22 @@ CheckAnswer (Some kind) bytes code old new =
     ((code ≡ OK) × IsPackIndex kind bytes × (new ≡ old))
     ⊎ ((e : Error) × IsRefusal kind bytes e × (code ≡ cause_number e) × (new ≡ detail_of e old))
 
+-- the head is that of an index, and the tables have its lengths: what each call tests
+abbrev pub IsLaidOut : Kind → List ℕ → Type 0
+IsLaidOut kind bytes = HasHead kind bytes × HasTables kind bytes
+
+-- why the bytes are no pack index: the first fault of one of SHA-256, if the tables of such an index fill them, and else of one of SHA-1
+abbrev pub IsFaultByTables : List ℕ → Error → Type 0
+IsFaultByTables bytes error =
+    (IsLaidOut Sha256 bytes × IsFault Sha256 bytes error) ⊎ ((¬ IsLaidOut Sha256 bytes) × IsFault Sha1 bytes error)
+
 -- what is returned of the kind, and left
 abbrev pub PackKindAnswer : List ℕ → ℕ → ℕ → ℕ → Type 0
 PackKindAnswer bytes code old new =
     ((code ≡ OK) × IsPackIndex Sha1 bytes × (new ≡ number_of Sha1))
     ⊎ (((code ≡ OK) × IsPackIndex Sha256 bytes × (¬ IsPackIndex Sha1 bytes) × (new ≡ number_of Sha256))
-    ⊎ ((new ≡ old) × (¬ IsPackIndex Sha256 bytes) × ((e : Error) × IsFault Sha1 bytes e × (code ≡ cause_number e))))
-
--- the head is that of an index, and the tables have its lengths: what each call tests
-abbrev pub IsLaidOut : Kind → List ℕ → Type 0
-IsLaidOut kind bytes = HasHead kind bytes × HasTables kind bytes
+    ⊎ ((new ≡ old) × (¬ IsPackIndex Sha1 bytes) × (¬ IsPackIndex Sha256 bytes)
+    × ((e : Error) × IsFaultByTables bytes e × (code ≡ cause_number e))))
 
 -- the number of a cause for which the bytes are no pack index, one of those that lie in the head and the lengths of the tables
 abbrev pub IsTablesFault : Kind → List ℕ → ℕ → Type 0

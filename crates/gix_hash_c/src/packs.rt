@@ -56,18 +56,19 @@ pub extern "C" fn gix_hash_pack_check(kind: u32, bytes: &[u8], detail: &mut u64)
 }
 
 /// The number of the kind whose ids the index holds. An error is the number of the cause for which
-/// the bytes are not an index of SHA-1, and leaves `kind` as it was.
+/// the bytes are not an index of SHA-256, if the tables of such an index fill them, and otherwise
+/// of SHA-1. It leaves `kind` as it was.
 #[unsafe(no_mangle)]
 pub extern "C" fn gix_hash_pack_kind(bytes: &[u8], kind: &mut u32) -> u32
     ensures { PackKindAnswer bytes.now result kind.old kind.new }
 {
-    match File::try_new(bytes, Kind::Sha1) {
+    let (by_tables, number) = match tables(Kind::Sha256, bytes) {
+        Ok(()) => (Kind::Sha256, 2),
+        Err(_) => (Kind::Sha1, 1),
+    };
+    match File::try_new(bytes, by_tables) {
         Ok(_) => {
-            *kind = 1;
-            OK
-        }
-        Err(Error::OtherKind(_)) => {
-            *kind = 2;
+            *kind = number;
             OK
         }
         Err(error) => cause_of(error),
