@@ -294,9 +294,9 @@ class Stores(unittest.TestCase):
         self.assertEqual(len(children()), 3)
         with self.assertRaises(ZeroDivisionError):
             list(store.find_many(str(1 // (5 - at)) * 4 for at in range(9)))
-        endless = itertools.count()
-        next(store.find_many(f"{at:04x}" for at in endless))
-        self.assertLess(next(endless), 17000)
+        numbers = iter(range(40000))
+        next(store.find_many(f"{at:08x}" for at in numbers))
+        self.assertLess(next(numbers), 17000)
 
     def test_chunks(self):
         bare, ids = self.blobs(packed=2000, loose=100)

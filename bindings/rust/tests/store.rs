@@ -357,6 +357,10 @@ fn killed() {
         // (Ctrl-C is sent to the whole group of this process, and each of them has its own)
         let stat = fs::read_to_string(format!("/proc/{pid}/stat")).unwrap();
         assert_eq!(stat.rsplit(") ").next().unwrap().split(' ').nth(2), Some(&*pid));
+        // (and it has no other's messages)
+        let open = fs::read_dir(format!("/proc/{pid}/fd")).unwrap().map(|it| it.unwrap().path());
+        let in_memory = |path: &PathBuf| fs::read_link(path).unwrap().to_string_lossy().contains("memfd:");
+        assert_eq!(open.filter(in_memory).count(), 1);
     }
     let mut many = store.find_many(ids.iter().cycle().take(500_000).map(|&id| id.into())).unwrap();
     assert_eq!(many.next().unwrap().unwrap().1, [ids[0]]);
@@ -501,8 +505,8 @@ fn full_chunks(store: &Store, ids: &[Id]) {
         }
     }
     let taken = Cell::new(0);
-    let endless = (0..).inspect(|&at| taken.set(at)).map(|at| prefix(&format!("{at:08x}")));
-    store.find_many(endless).unwrap().next().unwrap().unwrap();
+    let given = (0..40_000).inspect(|&at| taken.set(at)).map(|at| prefix(&format!("{at:08x}")));
+    store.find_many(given).unwrap().next().unwrap().unwrap();
     assert!(taken.get() < 17_000);
 }
 
