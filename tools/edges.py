@@ -32,6 +32,8 @@ MANY_FILES = 66_000
 MANY_LINES = 20_000
 # How many seconds of a processor a run may take that would take several times as many if each of its items were compared with all.
 SECONDS = 2
+# How long a gitfile may be, in Git, too, and a config; and how long a sparse file is that no memory holds.
+GITFILE, CONFIG, SPARSE = 1 << 20, 1 << 24, 40 << 30
 # Lines of a list of alternates, and why each is skipped, if it is an alternate that cannot be used.
 NOT_TEXT, RETURN = "{objects}/info/alternates: a path is not UTF-8", "its line ends in a carriage return"
 ODD_LINES = [
@@ -689,7 +691,7 @@ def long_texts(room):
     """Texts that are longer than a buffer, each with what counts at its end."""
     own, good = made.IDS["sha256"], "f" * 64
     add_objects(room / "good", [good])
-    for size in (1 << 12, 1 << 16, 1 << 18, 1 << 20):
+    for size in (1 << 12, 1 << 16, 1 << 18, 1 << 20, 1 << 22):
         repository = room / str(size) / "own"
         fill = b"x" * size
         configs = [("a comment", b"#" + fill), ("a value", b"[a]\nb=" + fill), ("a section", b'[a "' + fill + b'"]')]
@@ -704,16 +706,67 @@ def long_texts(room):
         (repository / "objects" / "info" / "alternates").unlink()
         write(repository / "HEAD", HEAD + fill)
         yield finds(f"HEAD with {size} more bytes", [own], cwd=repository)
-        if size < 1 << 20:
-            # (Git reads no longer gitfile)
-            work = room / str(size) / "work"
-            write(work / ".git", b"gitdir: ../own/worktrees/w" + b"\n" * size)
-            write(repository / "worktrees" / "w" / "HEAD", HEAD)
-            write(repository / "worktrees" / "w" / "commondir", b"../.." + b"\r\n" * (size // 2))
-            yield finds(f"a gitfile and commondir with {size} line ends", [own], cwd=work)
+        work = room / str(size) / "work"
+        write(work / ".git", b"gitdir: ../own/worktrees/w".ljust(min(size, GITFILE), b"\n"))
+        write(repository / "worktrees" / "w" / "HEAD", HEAD)
+        write(repository / "worktrees" / "w" / "commondir", b"../.." + b"\r\n" * (size // 2))
+        yield finds(f"a gitfile and commondir of {size} bytes", [own], cwd=work)
         if size < 1 << 17:
             env = {"GIT_ALTERNATE_OBJECT_DIRECTORIES": ":" * (size - 100) + str(room / "good")}
             yield finds(f"a variable of {size} bytes", [own, good], cwd=repository, env=env)
+
+
+def endless(room):
+    """Files that are too long or have no end, which are errors in little time and memory, as they are to git; and files of which only
+    the front counts, and NULs in a config. A config of more than 16 MiB is the one that git reads all the same."""
+    id, too_large, too_long = made.IDS["sha256"], "{path}: too large to be a .git file", "{path}: larger than 16 MiB"
+    rows = [
+        ("HEAD", HEAD, SPARSE, None),
+        ("HEAD", b"ref:".ljust(250) + b"refs/heads/main\n", 0, None),
+        ("HEAD", b"ref:".ljust(251) + b"refs/heads/main\n", 0, "no git repository in this directory or above it"),
+        ("HEAD", b"ref: refs/heads/" + b"x" * 300 + b"\n", 0, None),
+        (".git", b"gitdir: ../own\n", SPARSE, too_large),
+        (".git", b"gitdir: ../own".ljust(GITFILE + 1, b"\n"), 0, too_large),
+        ("config", SHA256, SPARSE, too_long),
+        ("config", b"", "/dev/zero", too_long),
+        ("config", SHA256 + b"\0", 0, "{path}: bad config line 5"),
+        ("config", b"# \0\n[a]\nb=\0c\n[a \"\0\"]\n" + SHA256, 0, None),
+        ("config", SHA256.rjust(CONFIG), 0, None),
+        ("config", SHA256.rjust(CONFIG + 1), 0, too_long),
+    ]
+    for at, (name, content, more, error) in enumerate(rows):
+        own = room / str(at) / "own"
+        add_repository(own, "sha256", [id])
+        path = (own.with_name("work") if name == ".git" else own) / name
+        write(path, content)
+        if more == SPARSE:
+            os.truncate(path, SPARSE)
+        elif more:
+            path.unlink()
+            path.symlink_to(more)
+        try:
+            by_git = listed(path.parent)
+        except OSError:
+            by_git = None
+        if by_git != (None if error and len(content) <= CONFIG else [id]):
+            raise ValueError(f"git does not agree about {name}, {at}")
+        title, how = f"{name}, {len(content)} bytes and {more} more", {"cwd": path.parent, "limits": [f"--cpu={SECONDS}", f"--data={40 << 20}"]}
+        yield fails(title, error.format(path=path), "abbreviate", **how) if error else finds(title, [id], **how)
+
+
+def pipes(room):
+    """Pipes in the place of files, none of which is opened: a pack, .git and a loose object, as git does, and HEAD, at which git waits."""
+    own, inner = room / "own", room / "own" / "inner"
+    add_repository(own, loose=[made.LOOSE], packs=[[made.PACKED]])
+    add_repository(inner, loose=[made.BOTH])
+    loose = own / "objects" / made.LOOSE[:2] / made.LOOSE[2:]
+    for path in (own / "objects" / "pack" / "pack-0.pack", loose, own / ".git", inner / "HEAD"):
+        path.unlink(missing_ok=True)
+        os.mkfifo(path)
+        where = inner if path.name == "HEAD" else own
+        if where == own and listed(own) != [made.LOOSE]:
+            raise ValueError(f"git lists other ids with the pipe {path.name}")
+        yield finds(f"{path.name}, a pipe", [made.LOOSE], cwd=where, seconds=10 * SECONDS)
 
 
 def environments(room):
@@ -739,4 +792,4 @@ def environments(room):
 CASES = [endings, many_files, long_files, cut, long_offsets, packs_beside, names_in_errors, names_of_files, counts, last_lines, prefixes]
 CASES += [skipped, much_found, damaged_asked, by_links, no_stores, files_in_each_way, links_to_nothing, links_among_others, links]
 CASES += [many_names, long_index, equal_beginnings, missing_alternates]
-CASES += [faulty, later_configs, chained, many_alternates, lent, odd_lines, long_texts, environments]
+CASES += [faulty, later_configs, chained, many_alternates, lent, odd_lines, long_texts, endless, pipes, environments]

@@ -68,7 +68,6 @@ answers_in entries = record {
   entry = λ path. answer (λ entry. Ok (found_at path entry)) (entry_at entries path);
   names = λ path. Err Unsupported;
   bytes = λ path. answer text_of (entry_at entries path);
-  text = λ path. answer text_of (entry_at entries path);
   link = λ path. answer link_of (entry_at entries path);
   real = λ path. answer (λ entry. Ok path) (entry_at entries path);
   missing = λ path listed kind failed lists. false≢true (ap is_ok lists);

@@ -112,9 +112,12 @@ impl Directories for MemTree<'_> {
         }
     }
 
-    fn read_text(&self, path: &str) -> io::Result<String> {
+    fn read_front(&self, path: &str, most: u64) -> io::Result<Vec<u8>> {
         match self.text(path) {
-            Ok(text) => Ok(String::from_str(self.alloc, text)?),
+            Ok(text) => {
+                let len = usize::try_from(most).unwrap_or(usize::MAX);
+                Ok(text.as_bytes()[..text.len().min(len)].to_vec(self.alloc)?)
+            }
             Err(error) => Err(error),
         }
     }

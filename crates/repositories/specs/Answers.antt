@@ -1,5 +1,5 @@
 -- What directories and files answer while nothing changes, and what is found by that.
-use Rattle.std.specs.Prelude.{◌≡◌, ◌≢◌, ℕ, Bool, true, false, List, Option, Some, None, Result, Ok, Err}
+use Rattle.std.specs.Prelude.{◌≡◌, ◌≢◌, ℕ, Bool, true, false, List, Option, Some, None, Result, Ok, Err, take}
 use Rattle.std.specs.IoError.{error_kind}
 use Rattle.std.specs.declared.io.Error.{Error as IoError}
 use Rattle.std.specs.declared.io.ErrorKind.{ErrorKind}
@@ -14,10 +14,13 @@ pub record Answers : Type 0 where
   pub entry : List ℕ → Result Found ErrorKind
   pub names : List ℕ → Result (List ℕ) ErrorKind
   pub bytes : List ℕ → Result (List ℕ) ErrorKind
-  pub text : List ℕ → Result (List ℕ) ErrorKind
   pub link : List ℕ → Result (List ℕ) ErrorKind
   pub real : List ℕ → Result (List ℕ) ErrorKind
   pub missing : (path listed : List ℕ) (kind : ErrorKind) → look path ≡ Err kind → names path ≢ Ok listed
+
+-- the first bytes of a file, so many at most
+abbrev pub front : ℕ → List ℕ → Answers → Result (List ℕ) ErrorKind
+front most path at = elim (at.bytes path) [ Ok bytes ↦ Ok (take most bytes) | Err kind ↦ Err kind ]
 
 -- a statement holds of the answers, if they are known
 abbrev pub IfKnown : (Answers → Type 0) → Option Answers → Type 0

@@ -6,17 +6,17 @@ use Rattle.std.specs.Result.{result_ok}
 use Rattle.gix_hash.specs.declared.Kind.{Kind}
 use Rattle.gix_hash.specs.declared.Kind.TheVariants.{Sha1}
 use Rattle.repositories.specs.Alternates.{paths_named}
-use Rattle.repositories.specs.Answers.{◌>>=◌, Answers}
+use Rattle.repositories.specs.Answers.{◌>>=◌, Answers, front}
 use Rattle.repositories.specs.Formats.{Says}
 use Rattle.repositories.specs.Heads.{is_head}
-use Rattle.repositories.specs.Lookups.{file_number_at, if_there, is_file, is_directory, is_no_link, real_directory}
+use Rattle.repositories.specs.Lookups.{as_text, file_number_at, if_there, is_file, is_directory, is_no_link, real_directory, short_file}
 use Rattle.repositories.specs.declared.finding.ObjectDirectory.{ObjectDirectory}
 use Rattle.repositories.specs.declared.repository.Environment.{Environment}
 
--- whether a path leads to a file that is a HEAD
+-- whether a path leads to a file that is a HEAD, by its first 255 bytes
 abbrev pub has_head_file : List ℕ → Answers → Option Bool
 has_head_file path at = is_file path at >>= λ is.
-    if is then (if_there (at.bytes path) >>= λ text. elim text [ None ↦ Some false | Some text ↦ Some (is_head text) ]) else Some false
+    if is then (if_there (front 255 path at) >>= λ front. elim front [ None ↦ Some false | Some front ↦ Some (is_head front) ]) else Some false
 
 -- whether a directory has a HEAD: a link to a reference, which need not be there, or a file that is one
 abbrev pub has_head : List ℕ → Answers → Option Bool
@@ -37,14 +37,14 @@ without_line_ends text = take (length text - suffix_len is_line_end text) text
 abbrev pub after_gitdir : List ℕ → Option (List ℕ)
 after_gitdir text = if bytes_eq (take 8 text) (codes "gitdir: ") then Some (drop 8 text) else None
 
--- the directory that a gitfile names, relative to its own
+-- the directory that a gitfile of at most 1 MiB names, relative to its own
 abbrev pub named_by : List ℕ → Answers → Option (List ℕ)
-named_by path at = if_there (at.text path) >>= λ text. option_and_then after_gitdir text >>= λ name.
+named_by path at = short_file 1048576 path at >>= as_text >>= λ text. option_and_then after_gitdir text >>= λ name.
     Some (path_join (unwrap_or (path_parent path) []) (without_line_ends name))
 
 -- the directory that the file commondir of a directory names, or the directory itself if there is no such file. An empty file is an error
 abbrev pub common_of : List ℕ → Answers → Option (List ℕ)
-common_of directory at = if_there (at.text (path_join directory (codes "commondir"))) >>= λ text. elim text [
+common_of directory at = if_there (at.bytes (path_join directory (codes "commondir"))) >>= as_text >>= λ text. elim text [
   | None ↦ Some directory
   | Some name ↦ if length name == 0 then None else option_map (λ real. real.0) (result_ok (real_directory (path_join directory (without_line_ends name)) at))
 ]
@@ -132,11 +132,11 @@ with_common given found = elim given.common_dir [ Some common ↦ record { direc
 unfoldable pub find : Environment → Option (List ℕ) → Answers → Option (Option Repository)
 find given here at = look_for given here at >>= λ found. Some (option_map (with_common given) found)
 
--- what the config in a directory says of the kind of ids, or none if there is no config
+-- what the config in a directory says of the kind of ids, or none if there is no config. It has at most 16 MiB
 abbrev pub ConfigSays : List ℕ → Option Kind → Answers → Type 0
-ConfigSays directory kind at = let answer = at.bytes (path_join directory (codes "config")) in elim kind [
-  | None ↦ if_there answer ≡ Some None
-  | Some kind ↦ (text : List ℕ) × (answer ≡ Ok text) × Says text (Ok kind)
+ConfigSays directory kind at = let file = short_file 16777216 (path_join directory (codes "config")) at in elim kind [
+  | None ↦ file ≡ Some None
+  | Some kind ↦ (text : List ℕ) × (file ≡ Some (Some text)) × Says text (Ok kind)
 ]
 
 -- the kind of a repository's ids: SHA-1 if there is no config

@@ -1,6 +1,7 @@
 -- What a call on a path says of what is there.
-use Rattle.std.specs.Prelude.{ℕ, Bool, false, true, if◌then◌else◌, List, None, Ok, Err, Option, Result, Some, option_map}
+use Rattle.std.specs.Prelude.{ℕ, Bool, false, true, if◌then◌else◌, List, None, Ok, Err, Option, Result, Some, length, nat_le, option_map}
 use Rattle.std.specs.Result.{result_ok}
+use Rattle.std.specs.Str.{is_utf8}
 use Rattle.std.specs.declared.io.ErrorKind.{ErrorKind}
 use Rattle.std.specs.declared.io.ErrorKind.TheVariants.{InvalidFilename, InvalidInput, NotADirectory, NotFound}
 use Rattle.repositories.specs.Answers.{◌>>=◌, Answers}
@@ -23,6 +24,15 @@ is_no_link kind = is_missing kind
 abbrev pub if_there : {T : Type 0} → Result T ErrorKind → Option (Option T)
 if_there (Ok found) = Some (Some found)
 if_there (Err kind) = if is_missing kind then Some None else None
+
+-- the bytes of a file that may have so many, or none if there is no file. Of a longer one nothing can be said
+abbrev pub short_file : ℕ → List ℕ → Answers → Option (Option (List ℕ))
+short_file most path at = if_there (at.bytes path) >>= λ file. elim file [ None ↦ Some None | Some bytes ↦ if nat_le (length bytes) most then Some (Some bytes) else None ]
+
+-- the text that the bytes of a file are, if there is one. Of bytes that are not UTF-8 nothing can be said
+abbrev pub as_text : Option (List ℕ) → Option (Option (List ℕ))
+as_text None = Some None
+as_text (Some bytes) = if is_utf8 bytes then Some (Some bytes) else None
 
 -- what a path leads to, or none if there is nothing, or if the path is too long or has a NUL
 abbrev pub if_found : Result Found ErrorKind → Option (Option Found)

@@ -1,7 +1,10 @@
 //! What paths lead to, as the functions see it that look for a repository.
 
-ghost use Rattle.std.specs.Prelude.{None, Option, string_bytes};
-ghost use Rattle.repositories.specs.Answers.{Answered, Answers};
+ghost use Rattle.std.specs.Prelude.{◌≢◌, ◌↔◌, IfErr, IsTrue, None, Option, string_bytes};
+ghost use Rattle.std.specs.Fs.{IsDir, IsFile, file_type};
+ghost use Rattle.std.specs.IoError.{error_kind};
+ghost use Rattle.std.specs.declared.io.ErrorKind.{ErrorKind};
+ghost use Rattle.repositories.specs.Answers.{Answered, Answers, front};
 
 use crate::files::{join, metadata, retried};
 use crate::state::FileState;
@@ -35,7 +38,7 @@ pub struct Found {
 /// NUL is one of the kind `InvalidFilename`.
 ///
 /// ```
-/// let head = rt.read(".git/HEAD")?;
+/// let list = rt.read(".git/objects/info/alternates")?;
 /// ```
 pub trait Directories: AllocGlobal {
     /// What each call answers while nothing changes; or `None`, which claims nothing.
@@ -59,9 +62,9 @@ pub trait Directories: AllocGlobal {
         ensures { Answered (λ bytes. bytes.items) result (λ at. at.bytes path.now)
             (answers self.now) };
 
-    /// The text of a file. If it is not UTF-8, the error is of the kind `InvalidData`.
-    fn read_text(&self, path: &str) -> io::Result<String>
-        ensures { Answered string_bytes result (λ at. at.text path.now) (answers self.now) };
+    /// The first bytes of a file: at most `most`, and all of them if it has no more.
+    fn read_front(&self, path: &str, most: u64) -> io::Result<Vec<u8>>
+        ensures { Answered (λ bytes. bytes.items) result (front most path.now) (answers self.now) };
 
     /// The path that a link has. If there is something else, the error is of the kind
     /// `InvalidInput`; if the link's path is not UTF-8, of the kind `InvalidFilename`.
@@ -78,15 +81,21 @@ pub trait Directories: AllocGlobal {
 impl<R: Files + AllocGlobal> Directories for R {
     ghost answers = { λ _. None };
 
-    fn look(&self, path: &str) -> io::Result<Found> {
+    fn look(&self, path: &str) -> io::Result<Found>
+        ensures retried { IfErr result (λ error. error_kind error ≢ ErrorKind.Interrupted) }
+    {
         Ok(found_in(&metadata(self, path)?))
     }
 
-    fn look_at_link(&self, path: &str) -> io::Result<Found> {
+    fn look_at_link(&self, path: &str) -> io::Result<Found>
+        ensures retried { IfErr result (λ error. error_kind error ≢ ErrorKind.Interrupted) }
+    {
         Ok(found_in(&retried(|| fs::symlink_metadata(self, path))?))
     }
 
-    fn names(&self, path: &str) -> io::Result<Vec<u8>> {
+    fn names(&self, path: &str) -> io::Result<Vec<u8>>
+        ensures retried { IfErr result (λ error. error_kind error ≢ ErrorKind.Interrupted) }
+    {
         // A path that ends in a slash leads to a directory by a link, too.
         let path = join(self, path, "")?;
         read_names(self.alloc(), retried(|| self.open_dir(&path))?)
@@ -96,21 +105,30 @@ impl<R: Files + AllocGlobal> Directories for R {
         fs::read(self, path)
     }
 
-    fn read_text(&self, path: &str) -> io::Result<String> {
-        fs::read_to_string(self, path)
+    fn read_front(&self, path: &str, most: u64) -> io::Result<Vec<u8>> {
+        let mut bytes = Vec::new(self.alloc());
+        fs::open(self, path)?.take(most).read_to_end(&mut bytes)?;
+        Ok(bytes)
     }
 
-    fn read_link(&self, path: &str) -> io::Result<String> {
+    fn read_link(&self, path: &str) -> io::Result<String>
+        ensures retried { IfErr result (λ error. error_kind error ≢ ErrorKind.Interrupted) }
+    {
         Ok(retried(|| fs::read_link(self, path))?.into_string())
     }
 
-    fn real_path(&self, path: &str) -> io::Result<String> {
+    fn real_path(&self, path: &str) -> io::Result<String>
+        ensures retried { IfErr result (λ error. error_kind error ≢ ErrorKind.Interrupted) }
+    {
         Ok(retried(|| fs::canonicalize(self, path))?.into_string())
     }
 }
 
 // What the host says of what is at a path.
-fn found_in(found: &Metadata) -> Found {
+fn found_in(found: &Metadata) -> Found
+    ensures directory { IsTrue result.is_directory ↔ IsDir (file_type found.now) }
+    ensures file { IsTrue result.is_file ↔ IsFile (file_type found.now) }
+{
     Found {
         is_directory: found.is_dir(),
         is_file: found.is_file(),
@@ -119,7 +137,9 @@ fn found_in(found: &Metadata) -> Found {
 }
 
 // A directory is read by chunks that have room for any name, which are those of a `BufReader`.
-fn read_names<D: Read + Drop>(alloc: Global, directory: D) -> io::Result<Vec<u8>> {
+fn read_names<D: Read + Drop>(alloc: Global, directory: D) -> io::Result<Vec<u8>>
+    ensures { IfErr result (λ error. error_kind error ≢ ErrorKind.Interrupted) }
+{
     let mut directory = BufReader::new(alloc, directory)?;
     let mut names = Vec::new(alloc);
     directory.read_to_end(&mut names)?;

@@ -1,14 +1,14 @@
 //! Paths, and what they lead to.
 
-ghost use Rattle.std.specs.Prelude.{◌≡◌, ◌≢◌, ◌↔◌, ◌++◌, ◌∷◌, [], IfErr, IfOk, IsErr, IsTrue, None, Ok, Some, false, if◌then◌else◌, map, option_copied, string_bytes, true, unwrap_or};
+ghost use Rattle.std.specs.Prelude.{◌≡◌, ◌≢◌, ◌↔◌, ◌++◌, ◌∷◌, [], IfErr, IfOk, IsErr, IsTrue, None, Ok, Some, false, if◌then◌else◌, map, option_copied, option_map, string_bytes, true, unwrap_or};
 ghost use Rattle.std.specs.IoError.{error_kind};
 ghost use Rattle.std.specs.Path.{path_join, path_parent};
 ghost use Rattle.std.specs.Result.{result_ok};
 ghost use Rattle.std.specs.Str.{IsUtf8};
 ghost use Rattle.std.specs.declared.io.ErrorKind.{ErrorKind};
-ghost use Rattle.repositories.specs.Answers.{Answered, Finds, IfKnown, is_memory};
+ghost use Rattle.repositories.specs.Answers.{Answered, Finds, IfKnown, IsFound, is_memory};
 ghost use Rattle.repositories.specs.Discovery.{ConfigSays, HasKind, HasKindBeside};
-ghost use Rattle.repositories.specs.Lookups.{if_directory, if_found, is_file, is_directory, is_missing, real_directory};
+ghost use Rattle.repositories.specs.Lookups.{as_text, if_directory, if_found, is_file, is_directory, is_missing, real_directory, short_file};
 ghost use Rattle.repositories.specs.Views.{directory_of};
 
 use crate::config::kind_in_config;
@@ -21,6 +21,10 @@ use std::io::{self, ErrorKind};
 use std::path::Path;
 use std::rt::Files;
 use std::str;
+
+// A config of more bytes is an error, so that a file without an end takes no more memory than this.
+// Git reads up to 2 GiB.
+const MAX_CONFIG: u32 = 16 << 20;
 
 /// Joins a path to that of a directory. An absolute path is returned as it is.
 ///
@@ -107,6 +111,42 @@ pub(crate) fn if_there<T: Drop>(
         Ok(read) => Ok(Some(read)),
         Err(error) if is_missing(&error) => Ok(None),
         Err(error) => Err(Error::file(rt.alloc(), path, error)),
+    }
+}
+
+// The bytes of a file, or `None` if there is no such file. A file of more than `most` bytes is an
+// error with this text.
+pub(crate) fn read_short<R: Directories>(
+    rt: &R,
+    path: &str,
+    most: u32,
+    too_long: &'static str,
+) -> Result<Option<Vec<u8>>, Error>
+    ensures { Finds (option_map (λ bytes. bytes.items)) result (short_file most path.now)
+        (R.answers rt.now) }
+{
+    let most = u64::from(most);
+    match if_there(rt, path, rt.read_front(path, most + 1))? {
+        Some(bytes) if bytes.len() as u64 > most => Err(Error::text(rt.alloc(), path, too_long)),
+        file => Ok(file),
+    }
+}
+
+// The text that the bytes of a file are, if there is one. Bytes that are not UTF-8 are an error.
+pub(crate) fn as_text(
+    rt: &impl AllocGlobal,
+    path: &str,
+    file: Option<Vec<u8>>,
+) -> Result<Option<String>, Error>
+    ensures { IsFound (option_map string_bytes) result
+        (as_text (option_map (λ bytes. bytes.items) file)) }
+{
+    let Some(bytes) = file else {
+        return Ok(None);
+    };
+    match String::from_utf8(bytes) {
+        Ok(text) => Ok(Some(text)),
+        Err(_) => Err(Error::text(rt.alloc(), path, "not UTF-8")),
     }
 }
 
@@ -254,7 +294,7 @@ fn kind_if_config<R: Directories>(rt: &R, directory: &str) -> Result<Option<Kind
     ensures { IfOk result (λ kind. IfKnown (ConfigSays directory.now kind) (R.answers rt.now)) }
 {
     let path = join(rt, directory, "config")?;
-    let Some(text) = if_there(rt, &path, rt.read(&path))? else {
+    let Some(text) = read_short(rt, &path, MAX_CONFIG, "larger than 16 MiB")? else {
         return Ok(None);
     };
     match kind_in_config(rt.alloc(), &text) {

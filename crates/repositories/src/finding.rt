@@ -45,8 +45,8 @@ impl ObjectDirectory {
     /// `info/alternates` or a fan-out directory.
     ///
     /// The error is [`Error::Memory`], or the cause [`Cause::NoStore`] or [`Cause::NoStoreButIn`]
-    /// if the directory is not an object directory, [`Cause::File`] if something cannot be read, or
-    /// [`Cause::Config`].
+    /// if the directory is not an object directory, [`Cause::File`] if something cannot be read,
+    /// [`Cause::Text`] if the config has more than 16 MiB, or [`Cause::Config`].
     ///
     /// ```
     /// let directory = ObjectDirectory::at(rt, ".git/objects")?;
@@ -85,8 +85,9 @@ impl ObjectDirectory {
 /// paths lead from the directory that has `.git`, if the repository is found there.
 ///
 /// The error is [`Error::Memory`], or the cause [`Cause::NoRepository`] if there is no repository,
-/// [`Cause::Text`] if a variable or a file cannot be used, such as an empty path of a directory,
-/// [`Cause::File`] if something cannot be read, or [`Cause::Config`].
+/// [`Cause::Text`] if a variable or a file cannot be used, such as an empty path of a directory, a
+/// gitfile of more than 1 MiB or a config of more than 16 MiB, [`Cause::File`] if something cannot
+/// be read, or [`Cause::Config`].
 pub fn find_objects<R: Directories + Env>(rt: &R) -> Result<ObjectDirectory, Error> {
     let given = Environment::read(rt)?;
     match given.dir {

@@ -1,6 +1,6 @@
 //! Where a repository has its objects, references and config.
 
-ghost use Rattle.std.specs.Prelude.{◌≡◌, ◌≤◌, IfOk, length, option_copied, option_map, string_bytes, take};
+ghost use Rattle.std.specs.Prelude.{◌≡◌, ◌≤◌, IfOk, length, option_copied, option_map, string_bytes};
 ghost use Rattle.std.specs.Char.{is_ascii_hexdigit};
 ghost use Rattle.std.specs.IoError.{error_kind};
 ghost use Rattle.std.specs.List.{prefix_len};
@@ -14,14 +14,19 @@ ghost use Rattle.repositories.specs.Views.{repository_of};
 use crate::directories::Directories;
 use crate::error::Error;
 use crate::files::{
-    FileNumber, existing_directory, has_directory, if_there, is_directory, is_file, is_missing,
-    join, parent,
+    FileNumber, as_text, existing_directory, has_directory, if_there, is_directory, is_file,
+    is_missing, join, parent, read_short,
 };
 use crate::finding::ALTERNATES;
 use std::alloc::AllocError;
 use std::env::{self, VarError};
 use std::io::{self, ErrorKind};
 use std::rt::Env;
+
+// As Git does, so many bytes of a `HEAD` are read at most, and a gitfile may have so many.
+const MAX_HEAD: u64 = 255;
+
+const MAX_GITFILE: u32 = 1 << 20;
 
 // At most this many directories above the current one are looked at. A path has at most 4,096
 // bytes, and each directory takes two.
@@ -319,7 +324,8 @@ fn with_top(rt: &impl AllocGlobal, directory: String, top: &str) -> Result<Repos
 fn named_by<R: Directories>(rt: &R, path: &str) -> Result<String, Error>
     ensures { Finds string_bytes result (named_by path.now) (R.answers rt.now) }
 {
-    if let Some(text) = if_there(rt, path, rt.read_text(path))?
+    let file = read_short(rt, path, MAX_GITFILE, "too large to be a .git file")?;
+    if let Some(text) = as_text(rt, path, file)?
         && let Some(name) = after_gitdir(&text)
     {
         let directory = parent(path).unwrap_or("");
@@ -341,7 +347,8 @@ fn common_of<R: Directories>(rt: &R, directory: &str) -> Result<String, Error>
     ensures { Finds string_bytes result (common_of directory.now) (R.answers rt.now) }
 {
     let path = join(rt, directory, "commondir")?;
-    match if_there(rt, &path, rt.read_text(&path))? {
+    let file = if_there(rt, &path, rt.read(&path))?;
+    match as_text(rt, &path, file)? {
         Some(name) if name.is_empty() => Err(Error::text(rt.alloc(), &path, "empty")),
         Some(name) => {
             let common = join(rt, directory, without_line_ends(&name))?;
@@ -382,29 +389,21 @@ fn has_head_file<R: Directories>(rt: &R, path: &str) -> Result<bool, Error>
     if !is_file(rt, path)? {
         return Ok(false);
     }
-    match if_there(rt, path, rt.read(path))? {
-        Some(text) => Ok(is_head(&text)),
+    match if_there(rt, path, rt.read_front(path, MAX_HEAD))? {
+        Some(front) => Ok(is_head(&front)),
         None => Ok(false),
     }
 }
 
-// Whether a file is a `HEAD`, by its first 255 bytes: it names a reference or begins with an id.
+// Whether the front of a file is that of a `HEAD`: it names a reference or begins with an id.
 #[tactic(auto, unfolding(crate::specs::Heads::is_head))]
-fn is_head(text: &[u8]) -> bool
-    ensures { result ≡ is_head text.now }
+fn is_head(front: &[u8]) -> bool
+    ensures { result ≡ is_head front.now }
 {
-    let front = first_255(text);
     match front.strip_prefix(b"ref:") {
         Some(rest) => rest[whitespace_len(rest)..].starts_with(b"refs/"),
         None => 40 <= digits_len(front),
     }
-}
-
-// The first 255 bytes of a text.
-fn first_255(text: &[u8]) -> &[u8]
-    ensures { result.now ≡ take 255 text.now }
-{
-    &text[..text.len().min(255)]
 }
 
 // The number of hex digits at the front of a text.
