@@ -68,6 +68,11 @@ def left(size):
     return children()
 
 
+def bytes_read():
+    """How many bytes this thread has read."""
+    return int(re.match(r"rchar: (\d+)", pathlib.Path("/proc/thread-self/io").read_text())[1])
+
+
 def begun(call):
     """A thread that runs."""
     thread = threading.Thread(target=call, daemon=True)
@@ -515,6 +520,10 @@ class Stores(unittest.TestCase):
         self.assertEqual({(it.category, it.filename) for it in caught}, {(SkippedWarning, __file__)})
         self.assertEqual(len(store.skipped), len(gone))
         self.assertTrue(all(path in text and text.endswith(", skipped") for path, text in zip(gone, store.skipped)))
+        # (what it has said is read once)
+        before = bytes_read()
+        self.assertEqual([store.find(ids[3]) for _ in range(20)], [[Id(ids[3])]] * 20)
+        self.assertLess(bytes_read() - before, 500000)
         (bare / "objects" / "info" / "alternates").write_text("/nowhere\n")
         with self.assertRaisesRegex(SkippedWarning, "^/nowhere: .*, skipped$"):
             store.find(ids[3])

@@ -100,6 +100,12 @@ fn kill_all() {
     assert!(Command::new("kill").arg("-9").args(children()).status().unwrap().success());
 }
 
+/// How many bytes this thread has read.
+fn bytes_read() -> usize {
+    let counts = fs::read_to_string("/proc/thread-self/io").unwrap();
+    counts.lines().next().unwrap().strip_prefix("rchar: ").unwrap().parse().unwrap()
+}
+
 fn is_killed(error: &StoreError) -> bool {
     error.to_string() == "packtool was ended by the signal 9"
 }
@@ -590,6 +596,12 @@ fn skipped_and_failed() {
         (1, ids.len())
     );
     assert_eq!(store.skipped().len(), 2000);
+    // (what it has said is read once)
+    let before = bytes_read();
+    for _ in 0..20 {
+        assert_eq!(store.find(&ids[3].into()).unwrap(), [ids[3]]);
+    }
+    assert!(bytes_read() - before < 500_000);
     let none = "no id begins with ffffffff (2000 parts of the store left out: see skipped)";
     assert_eq!(store.resolve(&prefix("ffffffff")).unwrap_err().to_string(), none);
     assert!(store.skipped()[0].starts_with("/nowhere/long") && store.skipped()[0].ends_with(", skipped"));
