@@ -567,9 +567,10 @@ def many_alternates(room):
 
 
 def missing_alternates(room):
-    """Many alternates that are missing: each is said once, in a time that does not grow with the square of their number."""
+    """Many alternates that are missing, the last name first: each is said once, in a time that does not grow with the square of their
+    number."""
     add_repository(room, loose=[made.LOOSE])
-    names = [f"{number:05}" for number in range(40_000)]
+    names = [f"{number:05}" for number in reversed(range(80_000))]
     write(room / "objects" / "info" / "alternates", "".join(f"{room}/{name}\n" for name in [*names, *names[:9]]).encode())
     errors = "".join(error_of(f"{room}/{name}: {NO_FILE}, skipped") for name in names)
     how = {"cwd": room, "limits": [f"--cpu={SECONDS}"]}

@@ -33,6 +33,7 @@ use packtool_commands::{
 };
 use repositories::{ObjectDirectory, find_objects};
 use std::alloc::{AllocError, Global};
+use std::collections::BTreeSet;
 use std::fs::File;
 use std::io;
 use std::rt::Files;
@@ -52,7 +53,7 @@ pub fn answer<'a>(rt: &HostRuntime, request: &StoreRequest<'a>) -> Result<u8, Fa
         question: request.question,
         directory: &directory,
         kept: None,
-        reported: Vec::new(rt.alloc()),
+        reported: BTreeSet::new(rt.alloc()),
     };
     match request.ask {
         Ask::All => asked.answer_all(),
@@ -136,8 +137,8 @@ struct Asked<'r> {
     least: usize,
     // The store that was asked last.
     kept: Option<DirectoryStore<HostRuntime>>,
-    // The reports on what is skipped that were printed, sorted.
-    reported: Vec<String>,
+    // The reports on what is skipped that were printed.
+    reported: BTreeSet<String>,
     ghost enough: { 4 ≤ least },
     ghost fits: { least ≤ hex_len_of directory.now.kind },
     ghost kept_of_kind: { ForSome kept (λ store. store.directory.kind ≡ directory.now.kind) },
@@ -376,20 +377,18 @@ fn loose_of(prefixes: &[Prefix]) -> LooseIds
     }
 }
 
-// Prints what was skipped, unless it is reported already, and returns whether nothing was. What is
-// reported is sorted.
+// Prints what was skipped, unless it is reported already, and returns whether nothing was.
 fn report_skipped(
     rt: &HostRuntime,
     skipped: &[Error],
-    reported: &mut Vec<String>,
+    reported: &mut BTreeSet<String>,
 ) -> Result<bool, AllocError>
     ensures { IfOk result (λ is_whole. IsTrue is_whole ↔ (skipped.now ≡ [])) }
 {
     for error in skipped {
         let text = format!(in rt.alloc(); "{error}")?;
-        if let Err(at) = reported.binary_search(&text) {
+        if reported.insert(text)? {
             report(rt, error, skipped_mark(error));
-            reported.insert(at, text)?;
         }
     }
     Ok(skipped.is_empty())
