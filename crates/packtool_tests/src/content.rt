@@ -31,6 +31,21 @@ const LOOSE: [&str; 3] = [
     "e69de29bb2d1d6434b8b29ae775ad8c2e48c5391",
 ];
 
+// The ids of another store, in its first pack, each with another first byte.
+const SPREAD: [&str; 11] = [
+    "0000000000000000000000000000000000000000",
+    "1111111111111111111111111111111111111111",
+    "2222222222222222222222222222222222222222",
+    "3333333333333333333333333333333333333333",
+    "4444444444444444444444444444444444444444",
+    "5555555555555555555555555555555555555555",
+    "6666666666666666666666666666666666666666",
+    "7777777777777777777777777777777777777777",
+    "8888888888888888888888888888888888888888",
+    "9999999999999999999999999999999999999999",
+    "aaaaaaaaaaaaaaaaaaaaaaaaaaaaaaaaaaaaaaaa",
+];
+
 /// The ids of the store that begin with `4b`, each once, in order.
 pub const FOUND: [&str; 3] = [
     "4b825d0000000000000000000000000000000000",
@@ -72,6 +87,16 @@ impl Content {
             first: pack_index(rt.alloc(), Kind::Sha1, &first, &[])?,
             second: pack_index(rt.alloc(), Kind::Sha1, &second, &LONGS)?,
             loose: ids_of(rt, &LOOSE)?,
+        })
+    }
+
+    /// A store whose ids have different first bytes.
+    pub fn spread(rt: &impl AllocGlobal) -> Result<Content, Fail> {
+        let ids = ids_of(rt, &SPREAD)?;
+        Ok(Content {
+            first: pack_index(rt.alloc(), Kind::Sha1, &ids, &[])?,
+            second: pack_index(rt.alloc(), Kind::Sha1, &[], &[])?,
+            loose: Vec::new(rt.alloc()),
         })
     }
 

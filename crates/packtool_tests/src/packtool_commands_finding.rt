@@ -129,8 +129,8 @@ fn writes_all(rt: HostRuntime) -> Result<(), Fail> {
 
 // How many reads there are before one fails, and how many bytes are written then, of locations and
 // of names. Four reads open the store. Two find the ids to locate. Then one reads the offset of the
-// first id, and three those of the second: the long one takes two. For the names of each first byte
-// two are made, and its lines are written before those of the next.
+// first id, and three those of the second: the long one takes two. For the names of a first byte one
+// is made of each pack that has ids with it, and its lines are written before those of the next.
 const LOCATED_BY: [(usize, usize); 7] = [
     (4, 0),
     (5, 0),
@@ -141,16 +141,13 @@ const LOCATED_BY: [(usize, usize); 7] = [
     (10, LOCATED.len()),
 ];
 
-const NAMED_BY: [(usize, usize); 9] = [
+const NAMED_BY: [(usize, usize); 6] = [
     (4, 0),
-    (5, 0),
+    (5, 48),
     (6, 48),
-    (7, 48),
-    (60, 48),
-    (200, 194),
-    (300, 194),
-    (515, 294),
-    (516, NAMED.len()),
+    (7, 194),
+    (8, 294),
+    (9, NAMED.len()),
 ];
 
 #[test]
@@ -172,15 +169,15 @@ fn reads_fail_in_turn(rt: HostRuntime) -> Result<(), Fail> {
 // again after `again` reads; expects the text, or a failure, and this number of openings.
 fn expect_reopened(
     rt: &(impl Abort + AllocGlobal),
+    content: &Content,
     (asked, text): (Asked, &str),
     left: usize,
     again: usize,
     reopened: usize,
 ) -> Result<(), Fail> {
-    let content = Content::new(rt)?;
     let reads = Reads::gone(left, again, 20);
     let mut store = content.open(rt.alloc(), &reads)?;
-    let mut buf = [0; 512];
+    let mut buf = [0; 1024];
     let mut out = IntoSlice::new(&mut buf);
     let is_right = match run(rt, asked, &mut store, &mut out) {
         Ok(any) => any && out.written() == text.as_bytes(),
@@ -196,16 +193,36 @@ fn expect_reopened(
 // is written once.
 #[test]
 fn opens_again(rt: HostRuntime) -> Result<(), Fail> {
+    let content = Content::new(&rt)?;
     for &asked in &[(Asked::Find("4b8"), FOUND), (Asked::Locate("4b8"), LOCATED)] {
-        expect_reopened(&rt, asked, 4, AMPLE, 1)?;
-        expect_reopened(&rt, asked, 5, AMPLE, 1)?;
-        expect_reopened(&rt, asked, 4, 0, 9)?;
+        expect_reopened(&rt, &content, asked, 4, AMPLE, 1)?;
+        expect_reopened(&rt, &content, asked, 5, AMPLE, 1)?;
+        expect_reopened(&rt, &content, asked, 4, 0, 9)?;
     }
-    expect_reopened(&rt, (Asked::Locate("4b8"), LOCATED), 9, AMPLE, 1)?;
-    for &left in &[4, 5, 7, 200, 300, 515] {
-        expect_reopened(&rt, (Asked::Names, NAMED), left, AMPLE, 1)?;
+    expect_reopened(&rt, &content, (Asked::Locate("4b8"), LOCATED), 9, AMPLE, 1)?;
+    for &left in &[4, 5, 6, 7, 8] {
+        expect_reopened(&rt, &content, (Asked::Names, NAMED), left, AMPLE, 1)?;
     }
-    // Each of the 256 first bytes takes 2 reads: 50 are enough for 25 of them.
-    expect_reopened(&rt, (Asked::Names, NAMED), 4 + 50, 50, 10)?;
-    expect_reopened(&rt, (Asked::Names, NAMED), 4, 0, 9)
+    expect_reopened(&rt, &content, (Asked::Names, NAMED), 4, 0, 9)
+}
+
+// The names of ids with 11 first bytes, each of which takes one read.
+const SPREAD_NAMED: &str = "000000 0000000000000000000000000000000000000000
+111111 1111111111111111111111111111111111111111
+222222 2222222222222222222222222222222222222222
+333333 3333333333333333333333333333333333333333
+444444 4444444444444444444444444444444444444444
+555555 5555555555555555555555555555555555555555
+666666 6666666666666666666666666666666666666666
+777777 7777777777777777777777777777777777777777
+888888 8888888888888888888888888888888888888888
+999999 9999999999999999999999999999999999999999
+aaaaaa aaaaaaaaaaaaaaaaaaaaaaaaaaaaaaaaaaaaaaaa
+";
+
+// For all ids it may be opened again more often: once for each first byte here.
+#[test]
+fn opens_again_for_each_first_byte(rt: HostRuntime) -> Result<(), Fail> {
+    let content = Content::spread(&rt)?;
+    expect_reopened(&rt, &content, (Asked::Names, SPREAD_NAMED), 4 + 1, 1, 10)
 }

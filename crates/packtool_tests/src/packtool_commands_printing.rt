@@ -171,10 +171,10 @@ fn writes_fail_in_turn(rt: HostRuntime) -> Result<(), Fail> {
     Ok(())
 }
 
-// How many reads each takes: four open the store, and two find the ids with each of three first
-// bytes, or with one in the last row. Then each offset is one more, and a long one two; in the last
-// row that of the third id is not read.
-const READS: [(usize, usize); 6] = [(0, 10), (1, 10), (2, 19), (3, 19), (4, 10), (8, 10)];
+// How many reads each takes: four open the store, and one finds the ids with a first byte in each
+// pack that has some: with 4b two, with ff one and with fe none. Then each offset is one more, and a
+// long one two; in the last row that of the third id is not read.
+const READS: [(usize, usize); 6] = [(0, 7), (1, 7), (2, 16), (3, 16), (4, 7), (8, 10)];
 
 #[test]
 fn reads_fail_in_turn(rt: HostRuntime) -> Result<(), Fail> {
