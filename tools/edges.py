@@ -60,6 +60,7 @@ ODD_LINES = [
     (b"{room}/file/x", f"{{room}}/file/x: {NO_DIRECTORY}"),
     (b"{room}/loop", f"{{room}}/loop: {LOOP}"),
     (b"{room}/loop\r", f"{{room}}/loop\r: {LOOP}"),
+    (b"{room}/locked/x", f"{{room}}/locked/x: {LOCKED}"),
 ]
 
 
@@ -147,6 +148,9 @@ def many_files(room):
     verdicts = {f"{chain.name}/right": "OK", f"{chain.name}/wrong": wrong, f"{chain.name}/x-chain": NO_DIGEST}
     verdicts |= {f"{chain.name}/{chain.name}": wrong, chain.name: NO_DIGEST}
     yield checks("check of files in the directory of a chain", verdicts, cwd=room)
+    (room / "locked").mkdir(0)
+    for path, why in (f"gone/{chain.name}", NO_FILE), (f"locked/{chain.name}", LOCKED):
+        yield fails(f"check of {path}", f"{path}: {why}", "check", path, cwd=room, around=POWERLESS)
 
 
 def long_files(room):
@@ -281,13 +285,13 @@ def last_lines(room):
 
 
 def prefixes(room):
-    """A prefix of each length, of an id and with another last digit; and texts that are no prefixes."""
+    """A prefix of each length, of an id in capitals and with another last digit; and texts that are no prefixes."""
     for kind, digits in DIGITS.items():
         id = made.IDS[kind]
         add_repository(room / kind, kind, [id])
-        for size, last in itertools.product(range(2, digits + 1), "0f"):
-            text = f"{id[: size - 1]}{last}"
-            found = [id] if id.startswith(text) else []
+        for size, last in itertools.product(range(2, digits + 1), "0fF"):
+            text = f"{id[: size - 1].upper()}{last}"
+            found = [id] if id.startswith(text.lower()) else []
             yield prints(f"find of {size} digits of {kind}, the last {last}", found, "find", text, status=1 - len(found), cwd=room / kind)
         for text in (" 4b", "4b ", "\t4b", "4b\v", "0x4b", "+4b", "4b_0", "", "4", "4g", f"{id}0", "\N{FULLWIDTH DIGIT FOUR}b"):
             yield fails(f"find of {text!r} in {kind}", f"{text}: not 2 to {digits} hex digits", "find", "--", text, cwd=room / kind)
@@ -478,6 +482,9 @@ def links_among_others(room):
     add_objects(room / "lent", ids[1:])
     path = f"link1/4b/{ids[1][2:]}"
     yield fails("locate over a link to nothing whose object an alternate has", f"{path}: {NO_FILE}", "locate", ids[1], "--objects", "link1", cwd=room)
+    lent = f"lent/4b/{ids[0][2:]}"
+    (room / lent).symlink_to("gone")
+    yield fails("locate over a link to nothing in an alternate", f"{room}/{lent}: {NO_FILE}", "locate", ids[0], "--objects", "link1", cwd=room)
     # (a file is read by as many bytes as there is room for, a pipe by as many as were written at once)
     write(room / "lines", b"ff\n" * 2000 + f"{ids[1]}\n".encode())
     how = {"cwd": room, "around": ("sh", "-c", 'exec "$@" < lines', "sh")}
@@ -511,6 +518,7 @@ def faulty(room):
     yield fails("an empty commondir", f"{directory}/commondir: empty", "find", "4b", cwd=directory)
     gone = ("sh", "-c", 'mkdir gone && cd gone && rmdir ../gone && "$@"', "sh")
     yield fails("a directory that was removed", f".: {NO_FILE}", "find", "4b", cwd=room, around=gone)
+    yield prints("$GIT_DIR in it", [], "find", "4b", status=1, cwd=room, around=gone, env={"GIT_DIR": str(room / "r")})
 
 
 def later_configs(room):
@@ -553,7 +561,7 @@ def chained(room):
 
 def many_alternates(room):
     """Alternates of which the paths of some begin those of others, in both orders, in a list and in the environment."""
-    bare, ids = room / "bare", [f"4b{number:038x}" for number in range(300)]
+    bare, ids = room / "bare", [f"4b{number:038x}" for number in range(1100)]
     add_repository(bare)
     for number, id in enumerate(ids):
         add_objects(room / str(number), [id])
@@ -659,6 +667,8 @@ def links(room):
     names = [f"pack-{number:02}" for number in range(70)]
     for name in names:
         add_pack(room / "many", name, plain_index([made.BOTH]))
+    # (after one that is skipped, another error is none the less one)
+    add_pack(room / "many", "damaged", b"")
     for path, target, why in [("many/pack/pack-00.pack", "pack-00.pack", LOOP), ("many/pack/pack-69.idx", "gone", NO_FILE)]:
         (room / path).unlink()
         (room / path).symlink_to(target)
@@ -674,6 +684,7 @@ def odd_lines(room):
     (room / "loop").symlink_to("loop")
     (room / "loop\r").symlink_to("loop\r")
     (room / "directory\r").mkdir()
+    (room / "locked").mkdir(0)
     add_objects(room / "good", [good])
     for at, (line, why) in enumerate(ODD_LINES):
         for order in (1, -1):
@@ -685,7 +696,8 @@ def odd_lines(room):
             errors = error_of(f"{why}, skipped".format(room=room, objects=objects)) if why else ""
             if listed(repository) != [own, good]:
                 raise ValueError(f"git lists other ids with {line!r}")
-            yield finds(f"alternates, {line!r} {'first' if order > 0 else 'last'}", [own, good], errors=errors, cwd=repository)
+            how = {"errors": errors, "cwd": repository, "around": POWERLESS}
+            yield finds(f"alternates, {line!r} {'first' if order > 0 else 'last'}", [own, good], **how)
 
 
 def long_texts(room):

@@ -21,7 +21,7 @@
 // The calls before which the program stops; the first is none of files.
 static const unsigned calls[] = {
     SYS_rt_sigaction, SYS_open, SYS_openat, SYS_stat, SYS_lstat, SYS_fstat, SYS_newfstatat, SYS_statx, SYS_getdents64,
-    SYS_read, SYS_pread64, SYS_readlink, SYS_readlinkat, SYS_getcwd, SYS_write, SYS_exit_group,
+    SYS_read, SYS_pread64, SYS_lseek, SYS_readlink, SYS_readlinkat, SYS_getcwd, SYS_write, SYS_exit_group,
 };
 enum { CALLS = sizeof calls / sizeof *calls };
 
