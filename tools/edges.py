@@ -618,20 +618,25 @@ def many_names(room):
     for one, other in itertools.permutations(found):
         how = {"status": 1, "cwd": room, "given": f"{one}\n{other}\n".encode()}
         yield prints(f"find --stdin of {one} and {other}", found[one] + found[other], "find", "--stdin", "--objects", "index", **how)
+    # (the lines before an error are printed)
+    add_pack(room / "index", "pack-1", changed(plain_index(["f" * 40]), 1032, 0))
+    errors = error_of("index/pack/pack-1.idx: an id among those with the first byte ff has another")
+    how = {"errors": errors, "status": 2, "cwd": room, "given": b"4b\nff\n"}
+    yield prints("find --stdin of 4b and what is damaged", found["4b"], "find", "--stdin", "--objects", "index", **how)
 
 
 def long_index(room):
-    """A pack index with ids and offsets beyond 16 MiB: what is at its beginning and at its end."""
-    size, step = 900_000, 1 << 12
+    """A pack index with ids and offsets beyond 16 MiB: what is at its beginning, more than 4 MiB of one first byte, and at its end."""
+    size, step, each = 900_000, 1 << 6, 1 << 18
     names = b"".join(number.to_bytes(4, "big") + bytes(16) for number in range(0, size * step, step))
-    counts = struct.pack(">256I", *(min(size, (byte + 1) * step) for byte in range(256)))
+    counts = struct.pack(">256I", *(min(size, (byte + 1) * each) for byte in range(256)))
     offsets = struct.pack(f">{size}I", *range(12, 12 + size))
     add_pack(room / "objects", "pack-0", sealed(b"".join([b"\xfftOc\0\0\0\2", counts, names, bytes(4 * size), offsets, bytes(20)])))
-    last = (size - 1) // step
-    for byte in (0, last):
-        places = [(f"{number * step:08x}{'0' * 32}", 12 + number) for number in range(byte * step, min(size, (byte + 1) * step))]
-        for word, lines in ("find", [id for id, _ in places]), ("locate", [f"{id} objects/pack/pack-0.pack {offset}" for id, offset in places]):
-            yield prints(f"{word} {byte:02x} in an index of 24 MiB", lines, word, f"{byte:02x}", "--objects", "objects", cwd=room)
+    last = (size - 1) // each
+    for word, byte in ("find", 0), ("locate", last):
+        places = [(f"{number * step:08x}{'0' * 32}", 12 + number) for number in range(byte * each, min(size, (byte + 1) * each))]
+        lines = [f"{id} objects/pack/pack-0.pack {offset}" if word == "locate" else id for id, offset in places]
+        yield prints(f"{word} {byte:02x} in an index of 24 MiB", lines, word, f"{byte:02x}", "--objects", "objects", cwd=room)
 
 
 def lent(room):

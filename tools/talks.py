@@ -205,4 +205,19 @@ def out_of_order(program, room):
             yield f"{what}, of which the index {name} is replaced", wrong_in(child)
 
 
-TALKS = [exchanges, statuses, locked_later, mended_later, few_files, out_of_order]
+def each_byte(program, room):
+    """Questions for which the loose objects of all first bytes are listed, as one comes with every 16th first byte."""
+    wrong = None
+    for byte in range(256):
+        (room / "objects" / f"{byte:02x}").mkdir(parents=True)
+    with talk(program, room, "find") as child:
+        for byte in range(7, 256, 16):
+            id = f"{byte:02x}{'0' * 38}"
+            asked = f"00\n{id[:2]}\n".encode()
+            wrong = wrong or asked_twice(child, asked, f"00 missing\n{id[:2]} missing\n".encode())
+            write(room / "objects" / id[:2] / id[2:])
+            wrong = wrong or ask(child, asked, f"00 missing\n{id[:2]} {id}\n".encode())
+    yield "find --stdin of two first bytes, as loose objects come", wrong
+
+
+TALKS = [exchanges, statuses, locked_later, mended_later, few_files, out_of_order, each_byte]

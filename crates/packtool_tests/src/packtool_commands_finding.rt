@@ -129,8 +129,8 @@ fn writes_all(rt: HostRuntime) -> Result<(), Fail> {
 
 // How many reads there are before one fails, and how many bytes are written then, of locations and
 // of names. Four reads open the store. Two find the ids to locate. Then one reads the offset of the
-// first id, and three those of the second: the long one takes two. For the names of a first byte one
-// is made of each pack that has ids with it, and its lines are written before those of the next.
+// first id, and three those of the second: the long one takes two. For the names of a first byte,
+// each pack that has ids with it is read once, and its lines are written before those of the next.
 const LOCATED_BY: [(usize, usize); 7] = [
     (4, 0),
     (5, 0),

@@ -172,7 +172,7 @@ fn writes_fail_in_turn(rt: HostRuntime) -> Result<(), Fail> {
 }
 
 // How many reads each takes: four open the store, and one finds the ids with a first byte in each
-// pack that has some: with 4b two, with ff one and with fe none. Then each offset is one more, and a
+// pack that has some: two for 4b, one for ff and none for fe. Then each offset is one more, and a
 // long one two; in the last row that of the third id is not read.
 const READS: [(usize, usize); 6] = [(0, 7), (1, 7), (2, 16), (3, 16), (4, 7), (8, 10)];
 
