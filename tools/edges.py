@@ -709,7 +709,7 @@ def long_texts(room):
     """Texts that are longer than a buffer, each with what counts at its end."""
     own, good = made.IDS["sha256"], "f" * 64
     add_objects(room / "good", [good])
-    for size in (1 << 12, 1 << 16, 1 << 18, 1 << 20, 1 << 22):
+    for size in (1 << 12, 1 << 16, 1 << 18, 1 << 22):
         repository = room / str(size) / "own"
         fill = b"x" * size
         configs = [("a comment", b"#" + fill), ("a value", b"[a]\nb=" + fill), ("a section", b'[a "' + fill + b'"]')]
