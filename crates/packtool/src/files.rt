@@ -1,6 +1,6 @@
 //! Commands over files.
 
-ghost use Rattle.std.specs.Prelude.{◌≡◌, ◌≢◌, ◌↔◌, ◌+◌, ◌*◌, ◌≤◌, ◌++◌, ◌∷◌, ◌⊎◌, ℕ, [], List, Some, codes, false, length, take, true, IfOk, IfSome, IsTrue, MatchOption, OnOk, string_bytes};
+ghost use Rattle.std.specs.Prelude.{◌≡◌, ◌≢◌, ◌↔◌, ◌+◌, ◌*◌, ◌≤◌, ◌++◌, ◌∷◌, ◌⊎◌, ℕ, [], List, Ok, Some, codes, false, length, take, true, IfOk, IfSome, IsTrue, MatchOption, OnOk, string_bytes};
 ghost use Rattle.std.specs.Io.{StartsWith};
 ghost use Rattle.std.specs.Option.{ForSome};
 ghost use Rattle.pack_index.specs.Format.{names_start, num_objects};
@@ -180,7 +180,7 @@ fn verdict_of_input<'a>(rt: &HostRuntime, kind: Option<Kind>) -> Result<Verdict,
     let mut reader = rt.reader();
     let mut bytes = Vec::new(rt.alloc());
     read_more(rt, path, &mut reader, NAMES_START as u64, &mut bytes)?;
-    if !is_index(&&bytes[..], path) {
+    if !is_index(rt, &&bytes[..], path)? {
         let mut input = Cursor::new(&bytes[..]).chain(reader);
         return Ok(Verdict::Ends(ending_of(rt, &mut input, path, kind)?));
     }
@@ -233,7 +233,7 @@ fn verdict_of_file<'a>(
     if has_no_digest(path) {
         return Ok(Verdict::Skipped);
     }
-    if !is_index(&file, path) {
+    if !is_index(rt, &file, path)? {
         return Ok(Verdict::Ends(ending_in(rt, &mut file, path, kind)?));
     }
     let mut bytes = Vec::new(rt.alloc());
@@ -284,16 +284,25 @@ fn is_chain_directory(rt: &HostRuntime, path: &str) -> bool
     path.ends_with(CHAIN_DIRECTORY) && metadata(rt, path).is_ok_and(|found| found.is_dir())
 }
 
-// Whether the name is that of a pack index, or the bytes begin as one of version 2.
-fn is_index<S: ReadAt>(source: &S, path: &str) -> bool
-    ensures named { result ≡ false → (stem : List ℕ) → path.now ≢ stem ++ INDEX_END.now }
-    ensures begun { (bytes : List ℕ) → S.content source.now ≡ Some bytes → result ≡ true
+// Whether the name is that of a pack index, or the bytes begin as one of version 2. Fails if they
+// cannot be read, except for bytes that are too few.
+fn is_index<'a, S: ReadAt>(rt: &HostRuntime, source: &S, path: &str) -> Result<bool, Failure<'a>>
+    ensures named { IfOk result (λ is. is ≡ false → (stem : List ℕ)
+        → path.now ≢ stem ++ INDEX_END.now) }
+    ensures begun { (bytes : List ℕ) → S.content source.now ≡ Some bytes → result ≡ Ok true
         → ((stem : List ℕ) × (path.now ≡ stem ++ INDEX_END.now)) ⊎ IsReadAt bytes 0 MAGIC }
     ensures found { (bytes : List ℕ) → S.content source.now ≡ Some bytes
-        → S.can_fail source.now ≡ false → IsReadAt bytes 0 MAGIC → result ≡ true }
+        → S.can_fail source.now ≡ false → IsReadAt bytes 0 MAGIC → result ≡ Ok true }
 {
+    if path.ends_with(INDEX_END) {
+        return Ok(true);
+    }
     let mut magic = [0; MAGIC.len()];
-    path.ends_with(INDEX_END) || source.read_exact_at(&mut magic, 0).is_ok() && magic == MAGIC
+    match source.read_exact_at(&mut magic, 0) {
+        Ok(()) => Ok(magic == MAGIC),
+        Err(error) if error.kind() == io::ErrorKind::UnexpectedEof => Ok(false),
+        Err(error) => Err(failure(rt, path, FileWhy::Read(error))),
+    }
 }
 
 // How a file ends: for the kind that is given or, if none is, for the kind whose digest it ends
