@@ -389,14 +389,15 @@ fn open_pack_index<R: StoreFiles>(
     }
 }
 
-// Why a pack index cannot be opened. A link to nothing is there, and so it was not removed; a file
-// that was not found and is there now was, and has come back.
+// Why a pack index cannot be opened. One that is not found was removed, and may have come back,
+// except for a link to nothing, which is there.
 fn not_opened<R: Directories>(rt: &R, path: &str, error: io::Error) -> Error
     ensures { IsUnread result ⊎ IsIndexError path.now (errors.Read error) result }
 {
-    let is_missing = error.kind() == io::ErrorKind::NotFound;
-    match rt.look_at_link(path) {
-        Ok(found) if !is_missing || !found.is_file => Error::file(rt.alloc(), path, error),
-        _ => Error::index(rt.alloc(), path, LazyError::Read(error)),
+    if error.kind() == io::ErrorKind::NotFound
+        && !rt.look_at_link(path).is_ok_and(|found| !found.is_file)
+    {
+        return Error::index(rt.alloc(), path, LazyError::Read(error));
     }
+    Error::file(rt.alloc(), path, error)
 }
