@@ -586,13 +586,19 @@ def missing_alternates(room):
 
 
 def equal_beginnings(room):
-    """Abbreviations of ids of which all begin with the same six digits, in a time that does not grow with the square of their number."""
+    """Abbreviations of ids of which all begin with the same six digits, and lines that are ambiguous among them, in a time that does not
+    grow with the square of their number."""
     ids = sorted({f"4b825d{id[6:]}" for id in sorted_ids(20_000, [20])})
     add_pack(room / "objects", "pack-0", index_of(ids))
     names = [line.split() for line in shortest(ids).splitlines()][::5]
     how = {"cwd": room, "given": "".join(f"{id}\n" for _, id in names).encode(), "limits": [f"--cpu={SECONDS}"]}
     title, lines = f"abbreviate --stdin of {len(names)} ids in {SECONDS} s", [name for name, _ in names]
     yield prints(title, lines, "abbreviate", "--stdin", "--objects", "objects", **how)
+    asked = ["4b825d", "4b82"] * (MANY_LINES // 2)
+    lines, how = [f"{line} ambiguous" for line in asked], {**how, "given": "".join(f"{line}\n" for line in asked).encode()}
+    for word in ("find", "locate"):
+        title = f"{word} --stdin --one of {len(asked)} ambiguous lines in {SECONDS} s"
+        yield prints(title, lines, word, "--stdin", "--one", "--objects", "objects", status=1, **how)
 
 
 def many_names(room):

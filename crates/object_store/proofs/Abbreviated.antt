@@ -28,7 +28,7 @@ run_length prefix ids run is =
     omega (arith, ap length found, length-take (run.end - run.start) (drop run.start ids), length-drop run.start ids, is.in_range)
 
 -- what passes of an index is the index of what passes
-index_of_passing : (kind : Kind) (p : List ℕ → Bool) (all whole : List (List ℕ)) → IsIndexOf kind all whole → IsIndexOf kind (filter p all) (filter p whole)
+pub index_of_passing : (kind : Kind) (p : List ℕ → Bool) (all whole : List (List ℕ)) → IsIndexOf kind all whole → IsIndexOf kind (filter p all) (filter p whole)
 index_of_passing kind p all whole is = record {
   index = index-filter kind p whole is.index;
   members = λ id. (
@@ -42,7 +42,7 @@ module _ (fewest : ℕ) (digits front : List ℕ) (is : front ≡ take fewest di
   size : length front ≡ min fewest (length digits)
   size = ap length is ∙ length-take fewest digits
 
-  begins_so : starts_with nat_eq digits front ≡ true
+  pub begins_so : starts_with nat_eq digits front ≡ true
   begins_so = subst (λ (ds : List ℕ). starts_with nat_eq digits ds ≡ true) (sym is) (begins_itself digits fewest)
 
   pub front_byte : 4 ≤ fewest → 2 ≤ length digits → first_byte_of front ≡ first_byte_of digits

@@ -3,6 +3,7 @@ pub mod Held
 pub mod Located
 pub mod Named
 mod Abbreviated
+mod FirstMatches
 pub mod PartNames
 pub mod Whole
 pub mod WholeLocations

@@ -19,6 +19,12 @@ abbrev pub limited_to : {X : Type 0} → Option ℕ → List X → List X
 limited_to None xs = xs
 limited_to (Some limit) xs = take limit xs
 
+-- these are the ids of the store that begin with the digits, the first ones up to the limit
+pub record AreFirstMatches {A : Type 0} (limit : Option ℕ) (view : StoreView) (digits : List ℕ) (first : Vec ObjectId A) : Type 0 where
+  pub ids : Vec ObjectId A
+  pub are_matches : AreMatches view digits ids.items
+  pub first_are : first.items ≡ limited_to limit ids.items
+
 -- these are the ids of the store that begin with the digits, the first ones up to the limit, each with its locations
 pub record AreLocated {A : Type 0} (limit : Option ℕ) (view : StoreView) (loose_paths : List ℕ → List (List ℕ)) (digits : List ℕ) (located : List (LocatedId A)) : Type 0 where
   pub ids : List ObjectId

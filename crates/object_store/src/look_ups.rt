@@ -3,7 +3,7 @@
 ghost use Rattle.std.specs.Prelude.{◌≡◌, ◌-◌, ◌<◌, ◌≤◌, ℕ, All, IfErr, IfNone, IfOk, IfSome, List, SomeIff, length, map, slice_index_or};
 ghost use Rattle.std.specs.List.{AllZip, sum_by};
 ghost use Rattle.id_lookup.specs.Words.{IsIndex, IsShortestNameFrom, KindDigits, first_byte_of, hex_len_of, id_digits, id_kind};
-ghost use Rattle.object_store.specs.Several.{AreLocated, AreNamed, IsAbbreviated, IsLocationsFault, id_count, location_count};
+ghost use Rattle.object_store.specs.Several.{AreFirstMatches, AreLocated, AreNamed, IsAbbreviated, IsLocationsFault, id_count, location_count};
 ghost use Rattle.object_store.specs.Stores.{AreMatches, ArePlaces, CanLookUp, HaveMore, IsListed, IsOfKind, IsOfOne, IsStoreFault, StoreView};
 ghost use Rattle.object_store.specs.declared.error.Error.{Error as StoreError};
 
@@ -62,7 +62,8 @@ pub fn lookup_prefix<S: Store, A: Allocator + Copy>(
 /// what it counts.
 ///
 /// ```
-/// if let Some(found) = look_up_each(rt.alloc(), &mut store, &prefixes, 65_536, &Matching)? {
+/// let matching = Matching { limit: None };
+/// if let Some(found) = look_up_each(rt.alloc(), &mut store, &prefixes, 65_536, &matching)? {
 ///     for ids in found.iter() {
 ///         println!(rt; "{} ids", ids.len())?;
 ///     }
@@ -163,10 +164,11 @@ fn in_order<A: Allocator>(alloc: A, prefixes: &[Prefix]) -> Result<Vec<(u64, usi
     Ok(places)
 }
 
-// The first 8 bytes of a prefix as a number, with zeros after the prefix's digits.
+// The first 14 digits of a prefix as a number, with zeros after the prefix's digits, and then how
+// many digits the prefix has. So prefixes with the same first digits follow each other.
 fn key_of(prefix: &Prefix) -> u64 {
     match prefix.as_oid().as_bytes().first_chunk() {
-        Some(bytes) => u64::from_be_bytes(*bytes),
+        Some(bytes) => u64::from_be_bytes(*bytes) & !0xff | prefix.hex_len() as u64,
         None => 0,
     }
 }
@@ -174,7 +176,8 @@ fn key_of(prefix: &Prefix) -> u64 {
 /// The kind of look-up that [`look_up_each`] makes for each prefix.
 ///
 /// ```
-/// let found = look_up_each(rt.alloc(), &mut store, &prefixes, 65_536, &Matching)?;
+/// let matching = Matching { limit: None };
+/// let found = look_up_each(rt.alloc(), &mut store, &prefixes, 65_536, &matching)?;
 /// let located = Locating { limit: Some(2) };
 /// let located = look_up_each(rt.alloc(), &mut store, &prefixes, 65_536, &located)?;
 /// let named = Abbreviating { least: 7 };
@@ -220,14 +223,17 @@ pub trait LookUp<S: Store, A: Allocator + Copy> {
 /// Looks up the ids that begin with a prefix, each once, in order, as [`lookup_prefix`] does. Each
 /// id counts as 1.
 #[derive(Drop)]
-pub struct Matching;
+pub struct Matching {
+    /// How many ids of a prefix are returned at most, from the first on, or `None` for all of them.
+    pub limit: Option<usize>,
+}
 
 impl<S: Store, A: Allocator + Copy> LookUp<S, A> for Matching {
     type Found = Vec<ObjectId, A>;
 
     ghost fits = { λ _ _. Unit {0} };
 
-    ghost finds = { λ _ store digits ids. AreMatches (S.view store) digits ids.items };
+    ghost finds = { λ it store digits ids. AreFirstMatches it.limit (S.view store) digits ids };
 
     ghost fails = { λ _ view digits error. IsStoreFault view (first_byte_of digits) error };
 
@@ -242,7 +248,7 @@ impl<S: Store, A: Allocator + Copy> LookUp<S, A> for Matching {
         parts: &mut Parts<'_, S, A>,
         prefix: &Prefix,
     ) -> Result<Vec<ObjectId, A>, Error> {
-        parts.lookup_prefix(prefix)
+        parts.lookup_first(prefix, self.limit)
     }
 
     fn left(&self, ids: &Vec<ObjectId, A>, room: usize) -> Option<usize> {

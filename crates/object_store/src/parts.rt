@@ -3,12 +3,12 @@
 ghost use Rattle.std.specs.Prelude.{◌≡◌, ◌⊎◌, ◌≤◌, ◌<◌, ◌/◌, ◌%◌, ◌++◌, [], ◌∷◌, All, IfErr, IfOk, IsTrue, OnOk, Some, flat_map, length, map, nat_eq, slice_get, take, true};
 ghost use Rattle.std.specs.List.{starts_with};
 ghost use Rattle.id_lookup.specs.Words.{IsIndex, IsShortestNameFrom, first_byte_of, hex_len_of, id_digits, id_kind, matches};
-ghost use Rattle.object_store.specs.Several.{AreLocated, IsAbbreviated, IsAbbreviatedAs, IsLocationsFault, limited_to};
+ghost use Rattle.object_store.specs.Several.{AreFirstMatches, AreLocated, IsAbbreviated, IsAbbreviatedAs, IsLocationsFault, limited_to};
 ghost use Rattle.object_store.specs.Stores.{AreLocations, AreMatches, AreParts, CanLookUp, HaveBuckets, IsAbbreviationOf, IsListed, IsLocateFault, IsOfKind, IsStoreFault};
 ghost use Rattle.pack_index.specs.Lazy.{BucketNames};
 
 use crate::error::Error;
-use crate::store::{Store, StorePaths};
+use crate::store::{Store, StorePaths, beginning_with};
 use gix_hash::{Kind, ObjectId, Prefix};
 use id_lookup::{abbreviate_in, find_assuming_sorted, sort_unique};
 use pack_index::Bucket;
@@ -19,11 +19,15 @@ use std::marker::Model;
 // and do not search them. A single one always searches ids that were found in order before.
 const FEW_IDS: usize = 32;
 
+// Ids that are kept to look up the first ids of prefixes have this many first digits in common, or
+// as many as the prefix has. Several prefixes are looked up in the order of these digits.
+const FRONT_DIGITS: usize = 14;
+
 /// A cursor over a store. It holds a part of the store's ids: all with one first byte, or some of
 /// them, among which are all that begin with a prefix. It reads another part when something that is
 /// not in this one is looked up. So look-ups in sorted order read each part once, and the cursor
-/// holds memory for one part at a time. It also keeps the ids with which it has compared an
-/// abbreviation, until it compares one with others.
+/// holds memory for one part at a time. It also keeps the ids among which it has looked for an
+/// abbreviation, or for the first ids of a prefix, until it looks among others.
 ///
 /// ```
 /// let mut parts = Parts::new(rt.alloc(), &mut store);
@@ -39,7 +43,7 @@ pub struct Parts<'s, S: Store, A: Allocator> {
     few: usize,
     // The part that was read last.
     part: Option<Part<A>>,
-    // The ids among which an abbreviation was looked up last.
+    // The ids among which an abbreviation, or the first ids of a prefix, were looked up last.
     front: Option<Front<A>>,
 }
 
@@ -131,6 +135,31 @@ impl<'s, S: Store, A: Allocator + Copy> Parts<'s, S, A> {
         let ids = matches_in(self.alloc, &*self.store, &part.buckets, prefix);
         self.part = Some(part);
         Ok(ids?)
+    }
+
+    // The same ids up to a limit, or all if there is no limit. Up to a limit they are found by
+    // binary search among all ids with the same first digits.
+    pub(crate) fn lookup_first(
+        &mut self,
+        prefix: &Prefix,
+        limit: Option<usize>,
+    ) -> Result<Vec<ObjectId, A>, Error>
+        requires { CanLookUp (S.view self.old.now) prefix.now }
+        ensures store { self.new ≡ self.old }
+        ensures first { IfOk result (AreFirstMatches limit (S.view self.old.now)
+            prefix.now.digits) }
+        ensures err { IfErr result (IsStoreFault (S.view self.old.now)
+            (first_byte_of prefix.now.digits)) }
+    {
+        let Some(_) = limit else {
+            return self.lookup_prefix(prefix);
+        };
+        // The contract of this call says how many digits the prefix has at most.
+        let _hex_len = prefix.hex_len();
+        let front = self.take_front(front_of(prefix, FRONT_DIGITS))?;
+        let first = limited_to(beginning_with(&front.ids, prefix), limit).to_vec(self.alloc);
+        self.front = Some(front);
+        Ok(first?)
     }
 
     /// The abbreviation of an id in the store, of at least `least` digits, or `None` if the store
@@ -281,8 +310,7 @@ impl<'s, S: StorePaths, A: Allocator + Copy> Parts<'s, S, A> {
         ensures err { IfErr result (IsLocationsFault limit (S.view self.old.now)
             prefix.now.digits) }
     {
-        let ids = self.lookup_prefix(prefix)?;
-        locate_ids(self, &ids, limit, prefix)
+        locate_first(self, prefix, limit)
     }
 }
 
@@ -450,24 +478,21 @@ pub struct LocatedId<A: Allocator> {
 
 // Locates the ids that begin with a prefix: the first ones up to the limit, or all if there is no
 // limit.
-fn locate_ids<S: StorePaths, A: Allocator + Copy>(
+fn locate_first<S: StorePaths, A: Allocator + Copy>(
     parts: &mut Parts<'_, S, A>,
-    ids: &[ObjectId],
-    limit: Option<usize>,
     prefix: &Prefix,
+    limit: Option<usize>,
 ) -> Result<Vec<LocatedId<A>, A>, Error>
-    requires enough { 2 ≤ length prefix.now.digits }
-    requires listed { IsListed (S.view parts.old.now) (first_byte_of prefix.now.digits) }
-    requires ids { AreMatches (S.view parts.old.now) prefix.now.digits ids.now }
+    requires { CanLookUp (S.view parts.old.now) prefix.now }
     ensures store { parts.new ≡ parts.old }
     ensures located { IfOk result (λ located. AreLocated limit (S.view parts.old.now)
         (S.loose_paths parts.old.now) prefix.now.digits located.items) }
     ensures err { IfErr result (IsLocationsFault limit (S.view parts.old.now)
         prefix.now.digits) }
 {
-    let first = limited_to(ids, limit);
+    let first = parts.lookup_first(prefix, limit)?;
     let mut located = Vec::with_capacity(parts.alloc, first.len())?;
-    for id in first {
+    for id in &first {
         let locations = parts.locate(id)?;
         let loose_paths = parts.store().loose_paths(id)?;
         let one = LocatedId {

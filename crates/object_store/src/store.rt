@@ -1,7 +1,7 @@
 //! The object store that a look-up reads, and the table of its loose ids.
 
 ghost use Rattle.std.specs.Prelude.{◌≡◌, ◌<◌, ◌≤◌, ◌↔◌, All, Contains, IsTrue, length, map};
-ghost use Rattle.id_lookup.specs.Words.{IsIndexOf, hex_len_of, id_digits, id_kind, matches};
+ghost use Rattle.id_lookup.specs.Words.{IsIndex, IsIndexOf, Kind, hex_len_of, id_digits, id_kind, matches};
 
 use gix_hash::{Kind, ObjectId, Prefix};
 use id_lookup::{find_assuming_sorted, sort_unique};
@@ -184,9 +184,7 @@ impl LooseTable {
         ensures ids { map id_digits result.now ≡ matches prefix.now.digits self.now.ids }
         ensures kinds { All (λ id. id_kind id ≡ self.now.kind) result.now }
     {
-        let ids = &self.ids;
-        let run = find_assuming_sorted(ids, prefix);
-        &ids[run.start..run.end]
+        beginning_with(&self.ids, prefix)
     }
 
     /// Whether an id is in the table. An id of another kind is not.
@@ -195,4 +193,18 @@ impl LooseTable {
     {
         id.kind() == self.kind && !self.beginning_with(&Prefix::from(*id)).is_empty()
     }
+}
+
+// The ids of an index that begin with a prefix, in order, by binary search. The prefix has at most
+// as many digits as an id of the index's kind.
+pub(crate) fn beginning_with<'i>(ids: &'i [ObjectId], prefix: &Prefix) -> &'i [ObjectId]
+    requires { (kind : Kind) × IsIndex kind (map id_digits ids.now)
+        × (length prefix.now.digits ≤ hex_len_of kind) }
+    ensures ids { map id_digits result.now
+        ≡ matches prefix.now.digits (map id_digits ids.now) }
+    ensures kinds { (kind : Kind) → All (λ id. id_kind id ≡ kind) ids.now
+        → All (λ id. id_kind id ≡ kind) result.now }
+{
+    let run = find_assuming_sorted(ids, prefix);
+    &ids[run.start..run.end]
 }

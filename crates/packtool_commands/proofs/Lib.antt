@@ -1,4 +1,5 @@
 mod AnswerLemmas
+mod FirstTwo
 mod LineLemmas
 mod KeptLines
 mod ShownLemmas

@@ -9,7 +9,9 @@ ghost use Rattle.streams.specs.Streams.{lines_of};
 
 use crate::error::StoreError;
 use crate::prefixes::PrefixLines;
-use crate::printing::{Answers, ItemForm, ListForm, NoAnswer, write_answers, write_front};
+use crate::printing::{
+    Answers, ItemForm, ListForm, NoAnswer, limit_for, write_answers, write_front,
+};
 use crate::reopening::look_up_lines;
 use gix_hash::{Alphabet, ObjectId};
 use object_store::{Matching, Reopen};
@@ -26,9 +28,10 @@ use streams::{Sink, WriteFailed, write_id};
 /// [`Answers::Bare`] and [`Answers::BareOne`] write nothing there.
 ///
 /// The ids of a pack index with a first byte are read once. If they were found in order before,
-/// only some of them are read, for each line. Nothing is written before all ids are found; if a
-/// pack index is gone by then, the store is opened again. If the ids are more than `most`, and
-/// there are several prefixes, then nothing is written, and [`StoreError::TooMany`] is returned.
+/// only some of them are read, for each line. If one id is asked for, only the first two of a
+/// prefix are held. Nothing is written before all ids are found; if a pack index is gone by then,
+/// the store is opened again. If the ids are more than `most`, and there are several prefixes, then
+/// nothing is written, and [`StoreError::TooMany`] is returned.
 /// [`StoreError::Output`] is returned if and only if a write fails, after a proper beginning of the
 /// text. The sink must not have failed before.
 ///
@@ -62,7 +65,10 @@ pub fn find_each<S: Reopen, A: Allocator + Copy, W: Sink>(
     ensures part { IsErrOf result StoreError.Output → HasAnsweredMatchesPart A answers
         (S.view store.new) (lines_of lines.now.text.now) (W.taken out.old) (W.taken out.new) }
 {
-    let found = look_up_lines(alloc, store, lines, most, &Matching)?;
+    let matching = Matching {
+        limit: limit_for(answers),
+    };
+    let found = look_up_lines(alloc, store, lines, most, &matching)?;
     let form = ListForm {
         answers,
         item: IdForm,

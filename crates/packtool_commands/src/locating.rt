@@ -14,7 +14,7 @@ use crate::line_buffer::{put, put_id};
 use crate::line_end::push;
 use crate::prefixes::PrefixLines;
 use crate::printing::{
-    Answers, ItemForm, ListForm, NoAnswer, write_answers, write_each, write_front,
+    Answers, ItemForm, ListForm, NoAnswer, limit_for, write_answers, write_each, write_front,
 };
 use crate::reopening::look_up_lines;
 use arrayvec::ArrayVec;
@@ -113,17 +113,6 @@ fn locate_lines<S: Reopen + StorePaths, A: Allocator + Copy>(
     ensures unwritten { IfErr result (λ e. e ≢ StoreError.Output) }
 {
     look_up_lines(alloc, store, lines, most, &Locating { limit })
-}
-
-// How many ids of a prefix are located: all, or the first two, which show whether there are more
-// than one.
-fn limit_for(answers: Answers) -> Option<usize>
-    ensures { result ≡ limit_for answers }
-{
-    match answers {
-        Answers::All | Answers::Bare => None,
-        Answers::One | Answers::BareOne => Some(2),
-    }
 }
 
 // How an id is printed with its locations in a store: a line for each.

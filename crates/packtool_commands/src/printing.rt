@@ -3,7 +3,7 @@
 ghost use Rattle.std.specs.Prelude.{◌≡◌, ◌++◌, ◌∷◌, ℕ, Bool, List, IfOk, OnErr, OnOk, Option, Some, false, flat_map, option_copied, true};
 ghost use Rattle.std.specs.Io.KnownBytes.{Appends};
 ghost use Rattle.std.specs.Option.{option_map_or, option_or};
-ghost use Rattle.packtool_commands.specs.Stores.{answer_of, answers_by, found_text, front_text, no_answer, no_answer_by, with_found};
+ghost use Rattle.packtool_commands.specs.Stores.{answer_of, answers_by, found_text, front_text, limit_for, no_answer, no_answer_by, with_found};
 ghost use Rattle.packtool_commands.specs.declared.printing.NoAnswer.{NoAnswer};
 ghost use Rattle.streams.specs.Streams.{AppendsPart, Wrote, lines_of};
 
@@ -30,6 +30,17 @@ pub enum Answers {
     Bare,
     /// The one id that begins with it, written as `One` writes it.
     BareOne,
+}
+
+/// How many ids of a prefix are looked up: all, or the first two, which show whether there are
+/// several.
+pub(crate) fn limit_for(answers: Answers) -> Option<usize>
+    ensures { result ≡ limit_for answers }
+{
+    match answers {
+        Answers::All | Answers::Bare => None,
+        Answers::One | Answers::BareOne => Some(2),
+    }
 }
 
 /// The reason why a line has no answer.

@@ -1,24 +1,21 @@
-use Rattle.gix_hash.proofs.Std.{◌∙◌, List, map, ap, sym, subst, arith}
-use Rattle.id_lookup.specs.Words.{Index, IsIndex, IsRun, ObjectId, hex_len_of, id_digits, matches}
-use Rattle.id_lookup.proofs.Indexes.{index-sorted}
-use Rattle.id_lookup.proofs.Matched.{run_matches}
-use Rattle.object_store.proofs.LooseParts.{index_least}
+use Rattle.gix_hash.proofs.Std.{◌≡◌, ◌∙◌, List, map, ap, sym, subst, arith, All}
+use Rattle.id_lookup.specs.Words.{Index, IsIndex, ObjectId, hex_len_of, id_digits, id_kind, matches}
 use Rattle.object_store.proofs.store.LooseTable.beginning_with.Goals as goal
 
-pub find_assuming_sorted-run-requires : goal.find_assuming_sorted-run-requires
-find_assuming_sorted-run-requires c =
-    let kind = c.self.inside.kind in
-    let index : IsIndex kind (map id_digits c.deref.result.now) = subst (λ (ids : List ObjectId). IsIndex kind (map id_digits ids)) (sym c.deref.ensures.value) c.self.invariant.0 in
-    omega (arith, index_least kind (map id_digits c.deref.result.now) index, c.requires, ap (λ (x : Index). hex_len_of x.kind) c.self.view_is)
+pub beginning_with-requires : goal.beginning_with-requires
+beginning_with-requires c =
+    let kind = c.self.inside.kind in (
+      kind,
+      subst (λ (ids : List ObjectId). IsIndex kind (map id_digits ids)) (sym c.deref.ensures.value) c.self.invariant.0,
+      omega (arith, c.requires, ap (λ (x : Index). hex_len_of x.kind) c.self.view_is),
+    )
 
 pub returns-clause-ids : goal.returns-clause-ids
 returns-clause-ids c =
-    let prefix = c.args.prefix.now in
-    let run = c.find_assuming_sorted-run.result in
-    let kind = c.self.inside.kind in
-    let index : IsIndex kind (map id_digits c.deref.result.now) = subst (λ (ids : List ObjectId). IsIndex kind (map id_digits ids)) (sym c.deref.ensures.value) c.self.invariant.0 in
-    let found : IsRun prefix (map id_digits c.deref-2.result.now) run =
-    subst (λ (ids : List ObjectId). IsRun prefix (map id_digits ids) run) (c.deref.ensures.value ∙ sym c.deref-2.ensures.value)
-    (c.find_assuming_sorted-run.ensures.run (index-sorted kind (map id_digits c.deref.result.now) index)) in
-    run_matches id_digits prefix c.deref-2.result.now run found ∙ (λ i. matches prefix.digits (map id_digits (c.deref-2.ensures.value i)))
-    ∙ ap (λ (x : Index). matches prefix.digits x.ids) c.self.view_is
+    let digits = c.args.prefix.now.digits in
+    c.beginning_with.ensures.ids ∙ (λ i. matches digits (map id_digits (c.deref.ensures.value i))) ∙ ap (λ (x : Index). matches digits x.ids) c.self.view_is
+
+pub returns-clause-kinds : goal.returns-clause-kinds
+returns-clause-kinds c =
+    let given = subst (All (λ (id : ObjectId). id_kind id ≡ c.self.inside.kind)) (sym c.deref.ensures.value) c.self.invariant.2 in
+    subst (λ (x : Index). All (λ (id : ObjectId). id_kind id ≡ x.kind) c.beginning_with.result.now) c.self.view_is (c.beginning_with.ensures.kinds c.self.inside.kind given)
