@@ -10,6 +10,10 @@ mod callers_names;
 #[cfg(test)]
 mod callers_resolving;
 #[cfg(test)]
+mod changing;
+#[cfg(test)]
+mod directory_store_listing;
+#[cfg(test)]
 mod directory_store_source;
 #[cfg(test)]
 mod directory_store_store;
