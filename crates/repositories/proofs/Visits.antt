@@ -1,14 +1,10 @@
 -- A walk over directories and their alternates, path by path.
-use Rattle.gix_hash.proofs.Std.{◌≡◌, ◌↔◌, ◌∙◌, ◌+◌, ◌-◌, ◌<◌, ◌∷◌, ◌++◌, ◌==◌, ◌||◌, [], Bool, IsTrue, List, Option, Some, add-one, ap, ap₂, append-nil, arith, drop, drop-cons, false, get_or, if◌then◌else◌, length, list_any, map, refl, suc, sym, true, zero, ℕ}
+use Rattle.gix_hash.proofs.Std.{◌≡◌, ◌↔◌, ◌∙◌, ◌+◌, ◌-◌, ◌<◌, ◌∷◌, ◌++◌, ◌==◌, [], Bool, IsTrue, List, Option, Some, add-one, ap, ap₂, append-nil, arith, drop, drop-cons, false, get_or, if◌then◌else◌, length, map, refl, suc, sym, true, zero, ℕ}
 use Rattle.std.specs.Path.{path_join}
 use Rattle.std.specs.Str.{IsUtf8, is_utf8}
 use Rattle.std.proofs.lemmas.Str.{IsUtf8-from_is_utf8, is_utf8-from_IsUtf8}
 use Rattle.repositories.specs.Answers.{◌>>=◌, Answers}
 use Rattle.repositories.specs.Walks.{Walk, each, visit, visit_below, skip, with_path, with_paths}
-
-pub list_any-map : {X Y : Type 0} (p : Y → Bool) (f : X → Y) (xs : List X) → list_any p (map f xs) ≡ list_any (λ x. p (f x)) xs
-list_any-map p f [] = refl
-list_any-map p f (x ∷ xs) = ap (λ b. p (f x) || b) (list_any-map p f xs)
 
 -- a test for UTF-8 is its test by definition
 pub text_is : (b : Bool) (path : List ℕ) → IsTrue b ↔ IsUtf8 path → b ≡ is_utf8 path

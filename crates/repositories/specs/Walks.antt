@@ -9,8 +9,8 @@ use Rattle.repositories.specs.Answers.{◌>>=◌, Answers}
 use Rattle.repositories.specs.Lookups.{if_there, real_directory}
 use Rattle.repositories.specs.declared.files.FileNumber.{FileNumber}
 use Rattle.repositories.specs.declared.object_directories.ObjectDirectories.{ObjectDirectories}
-use Rattle.repositories.specs.declared.object_directories.Walk.{Walk as AWalk}
 use Rattle.repositories.specs.declared.state.FileState.{FileState}
+use Rattle.repositories.specs.declared.walk.Walk.{Walk as AWalk}
 
 -- a walk as far as it has come: the paths of the directories, the numbers of those whose absolute paths are not UTF-8, and how many paths were skipped
 pub record Walk : Type 0 where

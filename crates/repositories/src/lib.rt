@@ -16,6 +16,7 @@ mod finding;
 mod object_directories;
 mod repository;
 mod state;
+mod walk;
 
 pub use directories::{Directories, Found};
 pub use error::{Cause, Error};

@@ -12,12 +12,13 @@ use crate::alternates::alternate_paths;
 use crate::directories::Directories;
 use crate::error::Error;
 use crate::files::{
-    FileNumber, RealDirectory, existing_directory, if_there, is_missing, join, push_path,
-    real_directory,
+    RealDirectory, existing_directory, if_there, is_missing, join, push_path, real_directory,
 };
 use crate::finding::{ALTERNATES, ObjectDirectory};
 use crate::state::FileState;
+use crate::walk::Walk;
 use std::alloc::AllocError;
+use std::collections::BTreeSet;
 use std::io;
 
 // This many levels of alternates are read, as by Git: those of the directory itself, and five more,
@@ -94,6 +95,7 @@ pub fn with_alternates<R: Directories>(
             states: Vec::new(rt.alloc()),
             skipped: Vec::new(rt.alloc()),
         },
+        paths: BTreeSet::new(rt.alloc()),
         numbers: Vec::new(rt.alloc()),
     };
     walk.walk_from(rt, real, &objects.alternates)?;
@@ -111,14 +113,6 @@ fn put_first(paths: &mut Vec<String>, path: String)
     if let Some(first) = paths.first_mut() {
         *first = path;
     }
-}
-
-// A walk over directories and their alternates.
-#[derive(Drop)]
-struct Walk {
-    found: ObjectDirectories,
-    // The numbers of the directories whose absolute paths are not UTF-8.
-    numbers: Vec<FileNumber>,
 }
 
 impl Walk {
@@ -141,14 +135,18 @@ impl Walk {
     }
 
     // Adds a directory.
+    #[tactic(auto, using(crate::proofs::Sets::contains_more))]
     fn push(&mut self, real: RealDirectory) -> Result<(), AllocError>
         ensures { OnOk result (walk_of self.new
             ≡ with_directory (directory_of real) (walk_of self.old)) }
     {
+        let path = real.path.clone()?;
+        self.found.paths.reserve(1)?;
+        self.paths.insert(path)?;
+        self.found.paths.push_reserved(real.path);
         if let Some(number) = real.number {
             self.numbers.push(number)?;
         }
-        self.found.paths.push(real.path)?;
         Ok(())
     }
 
@@ -169,7 +167,7 @@ impl Walk {
     {
         match real.number {
             Some(number) => self.numbers.contains(&number),
-            None => self.found.paths.contains(&real.path),
+            None => self.paths.contains(&real.path),
         }
     }
 

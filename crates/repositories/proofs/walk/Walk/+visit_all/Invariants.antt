@@ -1,7 +1,7 @@
 use Rattle.gix_hash.proofs.Std.{◌≡◌, drop, map, string_bytes}
 use Rattle.repositories.specs.Answers.{IfKnown}
 use Rattle.repositories.specs.Walks.{each, visit_below, walk_of}
-use Rattle.repositories.proofs.object_directories.Walk.+visit_all.Given as goal
+use Rattle.repositories.proofs.walk.Walk.+visit_all.Given as goal
 
 abbrev pub decreases-visit_all : goal.decreases-visit_all
 decreases-visit_all g l = l.levels

@@ -1,8 +1,8 @@
 use Rattle.gix_hash.proofs.Std.{◌≡◌, ◌∙◌, ◌-◌, Some, arith, map, string_bytes, subst, sym}
 use Rattle.repositories.specs.Walks.{each, visit, visit_below, walk_of}
 use Rattle.repositories.proofs.Visits.{below_more, below_none, each_next}
-use Rattle.repositories.proofs.object_directories.Walk.+visit_all.Goals as goal
-use Rattle.repositories.proofs.object_directories.Walk.+visit_all.Goals.{then-levels-gt0+in_ok-visit_all, else-levels-gt0}
+use Rattle.repositories.proofs.walk.Walk.+visit_all.Goals as goal
+use Rattle.repositories.proofs.walk.Walk.+visit_all.Goals.{then-levels-gt0+in_ok-visit_all, else-levels-gt0}
 
 pub loop-path-preserved : goal.loop-path-preserved
 loop-path-preserved g t c = λ at known.

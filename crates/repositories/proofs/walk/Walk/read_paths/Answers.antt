@@ -1,7 +1,7 @@
 use Rattle.gix_hash.proofs.Std.{◌≡◌, ◌∙◌, List, arith, map, rules, string_bytes, ℕ}
 use Rattle.repositories.specs.Walks.{Walk, walk_of, with_path}
 use Rattle.repositories.proofs.Visits.{read_next}
-use Rattle.repositories.proofs.object_directories.Walk.read_paths.Goals as goal
+use Rattle.repositories.proofs.walk.Walk.read_paths.Goals as goal
 
 pub loop-path-preserved : goal.loop-path-preserved
 loop-path-preserved g c =

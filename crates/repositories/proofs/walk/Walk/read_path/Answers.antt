@@ -1,7 +1,7 @@
 use Rattle.gix_hash.proofs.Std.{ap, if◌then◌else◌, on_ok_weaker, sym, ◌∙◌}
 use Rattle.repositories.specs.Walks.{skip, walk_of}
 use Rattle.repositories.proofs.Visits.{reads}
-use Rattle.repositories.proofs.object_directories.Walk.read_path.Goals as goal
+use Rattle.repositories.proofs.walk.Walk.read_path.Goals as goal
 
 pub returns-then-branch : goal.returns-then-branch
 returns-then-branch g c =

@@ -1,6 +1,6 @@
 use Rattle.gix_hash.proofs.Std.{◌≡◌, [], drop, map, string_bytes}
 use Rattle.repositories.specs.Walks.{walk_of, with_paths}
-use Rattle.repositories.proofs.object_directories.Walk.read_paths.Given as goal
+use Rattle.repositories.proofs.walk.Walk.read_paths.Given as goal
 
 abbrev pub invariant-loop-path : goal.invariant-loop-path
 invariant-loop-path g l =
