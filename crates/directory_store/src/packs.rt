@@ -251,7 +251,7 @@ fn push_index(
     match str::from_utf8(name) {
         Ok(name) => indexes.paths.push(paths_of(rt, directory, name)?)?,
         Err(_) => {
-            let why = "the name of a pack index is not UTF-8";
+            let why = repositories::TextFault::PackIndexNotText;
             let error = repositories::Error::text(rt.alloc(), directory, why);
             indexes.skipped.push(Error::from(error))?;
         }

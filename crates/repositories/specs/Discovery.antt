@@ -42,11 +42,15 @@ abbrev pub named_by : List ℕ → Answers → Option (List ℕ)
 named_by path at = short_file 1048576 path at >>= as_text >>= λ text. option_and_then after_gitdir text >>= λ name.
     Some (path_join (unwrap_or (path_parent path) []) (without_line_ends name))
 
--- the directory that the file commondir of a directory names, or the directory itself if there is no such file. An empty file is an error
+-- the directory that the text of the file commondir of a directory names. An empty text is an error
+unfoldable pub common_named : List ℕ → List ℕ → Answers → Option (List ℕ)
+common_named directory name at = if length name == 0 then None else option_map (λ real. real.0) (result_ok (real_directory (path_join directory (without_line_ends name)) at))
+
+-- the directory that the file commondir of a directory names, or the directory itself if there is no such file
 abbrev pub common_of : List ℕ → Answers → Option (List ℕ)
 common_of directory at = if_there (at.bytes (path_join directory (codes "commondir"))) >>= as_text >>= λ text. elim text [
   | None ↦ Some directory
-  | Some name ↦ if length name == 0 then None else option_map (λ real. real.0) (result_ok (real_directory (path_join directory (without_line_ends name)) at))
+  | Some name ↦ common_named directory name at
 ]
 
 -- the common directory of a directory, but that of the environment if it names one

@@ -1,5 +1,6 @@
 -- What the variables of a config (git-config) say of a repository's format and its ids, as setup.c reads them.
 use Rattle.std.specs.Prelude.{◌≡◌, ℕ, ◌&&◌, ◌||◌, not, if◌then◌else◌, Option, Some, None, Result, Ok, Err, List, [], ◌∷◌, find, map, codes, bytes_eq, option_and_then, option_map, unwrap_or, is_some, ℤ, pos, negsuc, int_lt, string_bytes, IfSome}
+use Rattle.std.specs.List.{list_any}
 use Rattle.std.specs.Option.{option_or}
 use Rattle.std.specs.Str.Lossy.{utf8_lossy}
 use Rattle.git_config.specs.Grammar.{IsConfig, after_prefix}
@@ -10,32 +11,44 @@ use Rattle.gix_hash.specs.declared.Kind.{Kind}
 use Rattle.gix_hash.specs.declared.Kind.TheVariants.{Sha1, Sha256}
 use Rattle.repositories.specs.declared.config.ConfigError.{ConfigError}
 use Rattle.repositories.specs.declared.config.ConfigError.TheVariants.{Line, NoVersion, NoBoolean, Version, Extension, NeedsVersion1, Kind as WrongKind, Memory}
+use Rattle.repositories.specs.declared.config.Name.{Name}
+use Rattle.repositories.specs.declared.config.Name.TheVariants.{Bare, NoopV1, ObjectFormat, PreciousObjects, RefStorage, RelativeWorktrees, WorktreeConfig}
 
 -- why a config says no kind
 pub data Fault : Type 0 where
   BadLine : ℕ → Fault
   BadVersion : Fault
-  BadBoolean : List ℕ → Fault
+  BadBoolean : Name → Fault
   BadKind : Fault
   UnknownVersion : ℤ → Fault
   UnknownExtension : List ℕ → Fault
-  OnlyInVersion1 : List ℕ → Fault
+  OnlyInVersion1 : Name → Fault
+
+-- the text of a name
+abbrev pub text_of : Name → List ℕ
+text_of Bare = codes "core.bare"
+text_of PreciousObjects = codes "extensions.preciousobjects"
+text_of WorktreeConfig = codes "extensions.worktreeconfig"
+text_of NoopV1 = codes "noop-v1"
+text_of ObjectFormat = codes "objectformat"
+text_of RefStorage = codes "refstorage"
+text_of RelativeWorktrees = codes "relativeworktrees"
 
 -- the names of the variables about the format that are booleans
-abbrev pub booleans : List (List ℕ)
-booleans = codes "core.bare" ∷ codes "extensions.preciousobjects" ∷ codes "extensions.worktreeconfig" ∷ []
+abbrev pub booleans : List Name
+booleans = Bare ∷ PreciousObjects ∷ WorktreeConfig ∷ []
 
 -- the extensions that only version 1 has
-abbrev pub of_version_1 : List (List ℕ)
-of_version_1 = codes "noop-v1" ∷ codes "objectformat" ∷ codes "refstorage" ∷ codes "relativeworktrees" ∷ []
+abbrev pub of_version_1 : List Name
+of_version_1 = NoopV1 ∷ ObjectFormat ∷ RefStorage ∷ RelativeWorktrees ∷ []
 
 -- the extensions that version 0 has, too
 abbrev pub of_any_version : List (List ℕ)
 of_any_version = codes "noop" ∷ codes "partialclone" ∷ codes "preciousobjects" ∷ codes "worktreeconfig" ∷ []
 
 -- the name among some that this one is, if it is one of them
-abbrev pub known : List (List ℕ) → List ℕ → Option (List ℕ)
-known names name = find (λ known. bytes_eq name known) names
+abbrev pub known : List Name → List ℕ → Option Name
+known names name = find (λ known. bytes_eq name (text_of known)) names
 
 -- the name of an extension that a variable sets
 abbrev pub extension : List ℕ → Option (List ℕ)
@@ -55,12 +68,12 @@ kind_of variable = option_and_then (λ text. if bytes_eq text (codes "sha1") the
     (value_named (codes "extensions.objectformat") variable)
 
 -- the extension that a variable sets, if only version 1 has it
-abbrev pub needs_of : Variable → Option (List ℕ)
+abbrev pub needs_of : Variable → Option Name
 needs_of variable = option_and_then (known of_version_1) (extension variable.name.items)
 
 -- the extension that a variable sets, if no version has it
 abbrev pub unknown_of : Variable → Option (List ℕ)
-unknown_of variable = option_and_then (λ name. if is_some (known of_version_1 name) || is_some (known of_any_version name) then None else Some name) (extension variable.name.items)
+unknown_of variable = option_and_then (λ name. if is_some (known of_version_1 name) || list_any (bytes_eq name) of_any_version then None else Some name) (extension variable.name.items)
 
 -- what is wrong with the value of a variable
 abbrev pub fault_of : Variable → Option Fault
@@ -85,7 +98,7 @@ unless (Some fault) format = Err fault
 unless None format = format
 
 -- the kind in a format: SHA-1 without a version and in version -1, which Git takes for none; in other versions the kind that was set, or SHA-1. Versions 0 and 1 must have all extensions, and no higher version is known
-abbrev pub kind_in_format : Option ℤ → Option Kind → Option (List ℕ) → Option (List ℕ) → Result Kind Fault
+abbrev pub kind_in_format : Option ℤ → Option Kind → Option Name → Option (List ℕ) → Result Kind Fault
 kind_in_format version_set kind_set needs unknown =
     let version = unwrap_or version_set (negsuc 0) in
     let kind = unwrap_or kind_set Sha1 in
@@ -104,10 +117,10 @@ kind_or_fault variables bad_line =
 abbrev pub reported : ConfigError → Option Fault
 reported (Line number) = Some (BadLine number)
 reported NoVersion = Some BadVersion
-reported (NoBoolean name) = Some (BadBoolean name.now)
+reported (NoBoolean name) = Some (BadBoolean name)
 reported (Version version) = Some (UnknownVersion version)
 reported (Extension name) = Some (UnknownExtension (string_bytes name))
-reported (NeedsVersion1 name) = Some (OnlyInVersion1 name.now)
+reported (NeedsVersion1 name) = Some (OnlyInVersion1 name)
 reported WrongKind = Some BadKind
 reported (Memory error) = None
 

@@ -1,26 +1,77 @@
 //! Reads what a repository's config (git-config) says of its format and its ids.
 
-ghost use Rattle.std.specs.Prelude.{◌≡◌, ◌⊎◌, IsErrAnd, IsSome, MatchOption, None, bytes_eq, find, option_map};
-ghost use Rattle.repositories.specs.Formats.{Reports, Says, extension, fault_of, kind_in_format, kind_of, kind_or_fault, needs_of, reported, unknown_of, value_named, version_of};
+ghost use Rattle.std.specs.Prelude.{◌≡◌, ◌⊎◌, IsErrAnd, IsSome, MatchOption, None, Some, bytes_eq, option_map};
+ghost use Rattle.std.specs.List.{list_any};
+ghost use Rattle.repositories.specs.Formats.{Reports, Says, extension, fault_of, kind_in_format, kind_of, kind_or_fault, known, needs_of, of_any_version, reported, text_of, unknown_of, value_named, version_of};
 
 use git_config::{Config, Variable, is_boolean, number};
 use gix_hash::Kind;
 use std::alloc::{AllocError, Global};
+use std::fmt;
 use thiserror::Error as ThisError;
 
 // The extensions that only version 1 of the format has. The last two are of Git 2.45 and 2.48: how
 // refs are stored, and how worktrees are linked.
-const OF_VERSION_1: [&str; 4] = ["noop-v1", "objectformat", "refstorage", "relativeworktrees"];
+const OF_VERSION_1: [Name; 4] = [
+    Name::NoopV1,
+    Name::ObjectFormat,
+    Name::RefStorage,
+    Name::RelativeWorktrees,
+];
 
 // The extensions that version 0 has, too.
 const OF_ANY_VERSION: [&str; 4] = ["noop", "partialclone", "preciousobjects", "worktreeconfig"];
 
 // The variables about the format that are booleans.
-const BOOLEANS: [&str; 3] = [
-    "core.bare",
-    "extensions.preciousobjects",
-    "extensions.worktreeconfig",
-];
+const BOOLEANS: [Name; 3] = [Name::Bare, Name::PreciousObjects, Name::WorktreeConfig];
+
+/// The name of a variable that has to be a boolean, or of an extension that only version 1 of a
+/// repository's format has.
+#[derive(Clone, Copy, Debug)]
+pub enum Name {
+    /// The variable `core.bare`.
+    Bare,
+    /// The variable `extensions.preciousobjects`.
+    PreciousObjects,
+    /// The variable `extensions.worktreeconfig`.
+    WorktreeConfig,
+    /// The extension `noop-v1`.
+    NoopV1,
+    /// The extension `objectformat`.
+    ObjectFormat,
+    /// The extension `refstorage`.
+    RefStorage,
+    /// The extension `relativeworktrees`.
+    RelativeWorktrees,
+}
+
+impl Name {
+    /// The name as `git config --list` prints it; that of an extension without its section.
+    pub fn as_str(&self) -> &str
+        ensures { result.now ≡ text_of self.now }
+    {
+        match self {
+            Name::Bare => "core.bare",
+            Name::PreciousObjects => "extensions.preciousobjects",
+            Name::WorktreeConfig => "extensions.worktreeconfig",
+            Name::NoopV1 => "noop-v1",
+            Name::ObjectFormat => "objectformat",
+            Name::RefStorage => "refstorage",
+            Name::RelativeWorktrees => "relativeworktrees",
+        }
+    }
+}
+
+/// Prints the text of [`as_str`](Name::as_str), whatever width, fill and precision are asked for.
+impl fmt::Display for Name {
+    ghost output = { λ name. Some (text_of name) };
+
+    ghost styled_output = { λ name _. Some (text_of name) };
+
+    fn fmt<W: fmt::Write>(&self, f: &mut fmt::Formatter<W>) -> fmt::Result {
+        f.write_str(self.as_str())
+    }
+}
 
 /// Why a config does not say a kind.
 #[derive(Debug, Drop, ThisError)]
@@ -33,7 +84,7 @@ pub enum ConfigError {
     NoVersion,
     /// This variable has to be a boolean, and is not.
     #[error("{0} is neither true nor false")]
-    NoBoolean(&'static str),
+    NoBoolean(Name),
     /// This version of the repository's format is above 1.
     #[error("expected git repo version <= 1, found {0}")]
     Version(i64),
@@ -42,7 +93,7 @@ pub enum ConfigError {
     Extension(String),
     /// The version of the repository's format is 0, and this extension needs version 1.
     #[error("repo version is 0, but v1-only extension found: {0}")]
-    NeedsVersion1(&'static str),
+    NeedsVersion1(Name),
     /// `extensions.objectformat` is neither `sha1` nor `sha256`.
     #[error("extensions.objectformat is neither sha1 nor sha256")]
     Kind,
@@ -100,10 +151,10 @@ fn kind_in_format(
     alloc: Global,
     version: Option<i64>,
     kind: Option<Kind>,
-    needs: Option<&'static str>,
+    needs: Option<Name>,
     unknown: Option<&[u8]>,
 ) -> Result<Kind, ConfigError>
-    ensures { Reports (kind_in_format version kind (option_map (λ name. name.now) needs.entry)
+    ensures { Reports (kind_in_format version kind needs
         (option_map (λ name. name.now) unknown.entry)) result }
 {
     let (version, kind) = (version.unwrap_or(-1), kind.unwrap_or(Kind::Sha1));
@@ -170,8 +221,8 @@ fn value_named<'a>(variable: &'a Variable, name: &str) -> Option<&'a [u8]>
 }
 
 // The extension that a variable sets, if only version 1 has it.
-fn needs_of(variable: &Variable) -> Option<&'static str>
-    ensures { option_map (λ name. name.now) result ≡ needs_of variable.now }
+fn needs_of(variable: &Variable) -> Option<Name>
+    ensures { result ≡ needs_of variable.now }
 {
     known(&OF_VERSION_1, extension(&variable.name)?)
 }
@@ -181,11 +232,18 @@ fn unknown_of(variable: &Variable) -> Option<&[u8]>
     ensures { option_map (λ name. name.now) result ≡ unknown_of variable.now }
 {
     let name = extension(&variable.name)?;
-    if known(&OF_VERSION_1, name).is_some() || known(&OF_ANY_VERSION, name).is_some() {
+    if known(&OF_VERSION_1, name).is_some() || is_of_any_version(name) {
         None
     } else {
         Some(name)
     }
+}
+
+// Whether version 0 has this extension, too.
+fn is_of_any_version(name: &[u8]) -> bool
+    ensures { result ≡ list_any (bytes_eq name.now) of_any_version }
+{
+    OF_ANY_VERSION.iter().any(|known| is(name, known))
 }
 
 // The name of the extension that a variable sets, which follows the section.
@@ -196,10 +254,10 @@ fn extension(name: &[u8]) -> Option<&[u8]>
 }
 
 // The name among these that is the same as this one, if there is one.
-fn known(names: &[&'static str], name: &[u8]) -> Option<&'static str>
-    ensures { result ≡ find (λ known. bytes_eq name.now known.now) names.now }
+fn known(names: &[Name], name: &[u8]) -> Option<Name>
+    ensures { result ≡ known names.now name.now }
 {
-    names.iter().copied().find(|known| is(name, known))
+    names.iter().copied().find(|known| is(name, known.as_str()))
 }
 
 // Whether a text is this one.

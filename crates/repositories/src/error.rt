@@ -62,7 +62,7 @@ pub enum Cause {
         /// The path of the file or alternate, or the name of the variable.
         path: String,
         /// What is wrong.
-        why: &'static str,
+        why: TextFault,
     },
     /// A repository's config does not say a kind of ids that is known.
     #[error("{path}: {error}")]
@@ -91,6 +91,47 @@ pub enum Cause {
     NoRepository,
 }
 
+/// Why a file, a variable of the environment or an alternate cannot be used.
+#[derive(Clone, Copy, Debug, ThisError)]
+pub enum TextFault {
+    /// A file that is to have a path is empty.
+    #[error("empty")]
+    Empty,
+    /// A variable that is to have a path is empty.
+    #[error("set, but empty")]
+    EmptyVariable,
+    /// A file or the value of a variable is not UTF-8.
+    #[error("not UTF-8")]
+    NotText,
+    /// A list of alternates has a path that is not UTF-8.
+    #[error("a path is not UTF-8")]
+    PathNotText,
+    /// A list of alternates has a path that begins with a NUL.
+    #[error("a path begins with a NUL")]
+    PathWithNul,
+    /// The path of an alternate that is missing ends in a carriage return.
+    #[error("its line ends in a carriage return")]
+    CarriageReturn,
+    /// An alternate is nested too deep.
+    #[error("nested more than 5 deep")]
+    TooDeep,
+    /// A config is too large.
+    #[error("larger than 16 MiB")]
+    LargeConfig,
+    /// A gitfile is too large.
+    #[error("too large to be a .git file")]
+    LargeGitfile,
+    /// A gitfile does not name a directory.
+    #[error("names no directory")]
+    NamesNone,
+    /// A directory that is to be a repository is none.
+    #[error("not a git repository")]
+    NotRepository,
+    /// A directory has a pack index whose name is not UTF-8.
+    #[error("the name of a pack index is not UTF-8")]
+    PackIndexNotText,
+}
+
 impl Error {
     /// Makes the error for a directory or file that cannot be read. It is `Memory` if memory ran
     /// out for the call or runs out for the error, and otherwise a [`Cause::File`].
@@ -107,7 +148,7 @@ impl Error {
 
     /// Makes the error for a file, a variable or an alternate that cannot be used. It is a
     /// [`Cause::Text`], or `Memory` if memory runs out.
-    pub fn text(alloc: Global, path: &str, why: &'static str) -> Error {
+    pub fn text(alloc: Global, path: &str, why: TextFault) -> Error {
         match String::from_str(alloc, path) {
             Ok(path) => Error::of(alloc, Cause::Text { path, why }),
             Err(error) => Error::Memory(error),

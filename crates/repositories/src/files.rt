@@ -8,12 +8,12 @@ ghost use Rattle.std.specs.Str.{IsUtf8};
 ghost use Rattle.std.specs.declared.io.ErrorKind.{ErrorKind};
 ghost use Rattle.repositories.specs.Answers.{Answered, Finds, IfKnown, IsFound, is_memory};
 ghost use Rattle.repositories.specs.Discovery.{ConfigSays, HasKind, HasKindBeside};
-ghost use Rattle.repositories.specs.Lookups.{as_text, if_directory, if_found, is_file, is_directory, is_missing, real_directory, short_file};
+ghost use Rattle.repositories.specs.Lookups.{as_text, if_directory, if_found, if_there, is_file, is_directory, is_missing, real_directory, short_file};
 ghost use Rattle.repositories.specs.Views.{directory_of};
 
 use crate::config::kind_in_config;
 use crate::directories::{Directories, Found};
-use crate::error::Error;
+use crate::error::{Error, TextFault};
 use gix_hash::Kind;
 use std::alloc::AllocError;
 use std::fs::{self, Metadata};
@@ -114,13 +114,21 @@ pub(crate) fn if_there<T: Drop>(
     }
 }
 
+// The bytes of a file, or `None` if there is no such file.
+pub(crate) fn read_if_there<R: Directories>(rt: &R, path: &str) -> Result<Option<Vec<u8>>, Error>
+    ensures { Finds (option_map (λ bytes. bytes.items)) result (λ at. if_there (at.bytes path.now))
+        (R.answers rt.now) }
+{
+    if_there(rt, path, rt.read(path))
+}
+
 // The bytes of a file, or `None` if there is no such file. A file of more than `most` bytes is an
-// error with this text.
+// error with this fault.
 pub(crate) fn read_short<R: Directories>(
     rt: &R,
     path: &str,
     most: u32,
-    too_long: &'static str,
+    too_long: TextFault,
 ) -> Result<Option<Vec<u8>>, Error>
     ensures { Finds (option_map (λ bytes. bytes.items)) result (short_file most path.now)
         (R.answers rt.now) }
@@ -146,7 +154,7 @@ pub(crate) fn as_text(
     };
     match String::from_utf8(bytes) {
         Ok(text) => Ok(Some(text)),
-        Err(_) => Err(Error::text(rt.alloc(), path, "not UTF-8")),
+        Err(_) => Err(Error::text(rt.alloc(), path, TextFault::NotText)),
     }
 }
 
@@ -294,7 +302,7 @@ fn kind_if_config<R: Directories>(rt: &R, directory: &str) -> Result<Option<Kind
     ensures { IfOk result (λ kind. IfKnown (ConfigSays directory.now kind) (R.answers rt.now)) }
 {
     let path = join(rt, directory, "config")?;
-    let Some(text) = read_short(rt, &path, MAX_CONFIG, "larger than 16 MiB")? else {
+    let Some(text) = read_short(rt, &path, MAX_CONFIG, TextFault::LargeConfig)? else {
         return Ok(None);
     };
     match kind_in_config(rt.alloc(), &text) {

@@ -8,7 +8,7 @@ ghost use Rattle.repositories.specs.Views.{repository_of};
 
 use crate::alternates::alternate_paths;
 use crate::directories::Directories;
-use crate::error::{Cause, Error};
+use crate::error::{Cause, Error, TextFault};
 use crate::files::{has_directory, is_file, join, kind_beside, kind_by_config, push_path};
 use crate::repository::{Environment, Repository, Search};
 use gix_hash::Kind;
@@ -218,7 +218,7 @@ fn push_alternate(
     if push_path(rt, top, path, alternates)? {
         return Ok(());
     }
-    Err(Error::text(rt.alloc(), ALTERNATES, "a path is not UTF-8"))
+    Err(Error::text(rt.alloc(), ALTERNATES, TextFault::PathNotText))
 }
 
 // Whether a directory is an object directory.

@@ -19,7 +19,7 @@ mod state;
 mod walk;
 
 pub use directories::{Directories, Found};
-pub use error::{Cause, Error};
+pub use error::{Cause, Error, TextFault};
 pub use files::{join, metadata, retried};
 pub use finding::{ObjectDirectory, find_objects, find_objects_in};
 pub use object_directories::{ObjectDirectories, with_alternates};

@@ -10,7 +10,7 @@ ghost use Rattle.repositories.specs.Walks.{directories_of, each, has, list_at, s
 
 use crate::alternates::alternate_paths;
 use crate::directories::Directories;
-use crate::error::Error;
+use crate::error::{Error, TextFault};
 use crate::files::{
     RealDirectory, existing_directory, if_there, is_missing, join, push_path, real_directory,
 };
@@ -204,7 +204,7 @@ impl Walk {
         match real_directory(rt, path) {
             Ok(real) if self.has(&real) => Ok(Vec::new(rt.alloc())),
             Ok(_) if levels == 0 => {
-                self.skip(Error::text(rt.alloc(), path, "nested more than 5 deep"))?;
+                self.skip(Error::text(rt.alloc(), path, TextFault::TooDeep))?;
                 Ok(Vec::new(rt.alloc()))
             }
             Ok(real) => {
@@ -234,7 +234,7 @@ impl Walk {
             return Err(Error::Memory(AllocError));
         }
         if path.is_empty() {
-            return self.skip(Error::text(rt.alloc(), ALTERNATES, "a path begins with a NUL"));
+            return self.skip(Error::text(rt.alloc(), ALTERNATES, TextFault::PathWithNul));
         }
         self.skip(unusable(rt, path, error))?;
         if let Ok(state) = FileState::of(rt, path) {
@@ -292,7 +292,7 @@ impl Walk {
             return Ok(());
         }
         let list = list_path(rt, directory)?;
-        self.skip(Error::text(rt.alloc(), &list, "a path is not UTF-8"))
+        self.skip(Error::text(rt.alloc(), &list, TextFault::PathNotText))
     }
 
     // Reads the text of a list of alternates, which is empty if there is no list.
@@ -320,7 +320,7 @@ impl Walk {
 fn unusable(rt: &impl AllocGlobal, path: &str, error: io::Error) -> Error {
     match path.strip_suffix('\r') {
         Some(path) if is_missing(&error) => {
-            Error::text(rt.alloc(), path, "its line ends in a carriage return")
+            Error::text(rt.alloc(), path, TextFault::CarriageReturn)
         }
         _ => Error::file(rt.alloc(), path, error),
     }

@@ -5,17 +5,17 @@ ghost use Rattle.std.specs.Char.{is_ascii_hexdigit};
 ghost use Rattle.std.specs.IoError.{error_kind};
 ghost use Rattle.std.specs.List.{prefix_len};
 ghost use Rattle.repositories.specs.Answers.{Finds};
-ghost use Rattle.repositories.specs.Discovery.{after_gitdir, common_directory, common_of, find, find_above, find_from, first_above, directory_at, has_both, has_head, has_head_file, has_objects, is_highest, look_for, named_by, repository_at, repository_in, repository_of_worktree, required, without_line_ends};
+ghost use Rattle.repositories.specs.Discovery.{after_gitdir, common_directory, common_named, common_of, find, find_above, find_from, first_above, directory_at, has_both, has_head, has_head_file, has_objects, is_highest, look_for, named_by, repository_at, repository_in, repository_of_worktree, required, without_line_ends};
 ghost use Rattle.git_config.specs.Grammar.{is_whitespace};
 ghost use Rattle.repositories.specs.Heads.{is_head};
 ghost use Rattle.repositories.specs.Lookups.{file_number_at, is_no_link};
 ghost use Rattle.repositories.specs.Views.{repository_of};
 
 use crate::directories::Directories;
-use crate::error::Error;
+use crate::error::{Error, TextFault};
 use crate::files::{
     FileNumber, as_text, existing_directory, has_directory, if_there, is_directory, is_file,
-    is_missing, join, parent, read_short,
+    is_missing, join, parent, read_if_there, read_short,
 };
 use crate::finding::ALTERNATES;
 use std::alloc::AllocError;
@@ -71,7 +71,11 @@ impl Environment {
 // of the current directory.
 fn path_variable(rt: &(impl Env + AllocGlobal), name: &str) -> Result<Option<String>, Error> {
     match variable(rt, name)? {
-        Some(path) if path.is_empty() => Err(Error::text(rt.alloc(), name, "set, but empty")),
+        Some(path) if path.is_empty() => Err(Error::text(
+            rt.alloc(),
+            name,
+            TextFault::EmptyVariable,
+        )),
         path => Ok(path),
     }
 }
@@ -82,7 +86,7 @@ fn variable(rt: &(impl Env + AllocGlobal), name: &str) -> Result<Option<String>,
         Ok(value) => Ok(Some(value)),
         Err(VarError::NotPresent) => Ok(None),
         Err(VarError::OutOfMemory) => Err(Error::Memory(AllocError)),
-        Err(VarError::NotUnicode) => Err(Error::text(rt.alloc(), name, "not UTF-8")),
+        Err(VarError::NotUnicode) => Err(Error::text(rt.alloc(), name, TextFault::NotText)),
     }
 }
 
@@ -230,7 +234,7 @@ impl<R: Directories> Search<'_, R> {
         let directory = self.directory_at(path)?;
         match self.repository_at(&directory)? {
             Some(repository) => Ok(repository),
-            None => Err(Error::text(self.rt.alloc(), &directory, "not a git repository")),
+            None => Err(Error::text(self.rt.alloc(), &directory, TextFault::NotRepository)),
         }
     }
 
@@ -324,14 +328,14 @@ fn with_top(rt: &impl AllocGlobal, directory: String, top: &str) -> Result<Repos
 fn named_by<R: Directories>(rt: &R, path: &str) -> Result<String, Error>
     ensures { Finds string_bytes result (named_by path.now) (R.answers rt.now) }
 {
-    let file = read_short(rt, path, MAX_GITFILE, "too large to be a .git file")?;
+    let file = read_short(rt, path, MAX_GITFILE, TextFault::LargeGitfile)?;
     if let Some(text) = as_text(rt, path, file)?
         && let Some(name) = after_gitdir(&text)
     {
         let directory = parent(path).unwrap_or("");
         return Ok(join(rt, directory, without_line_ends(name))?);
     }
-    Err(Error::text(rt.alloc(), path, "names no directory"))
+    Err(Error::text(rt.alloc(), path, TextFault::NamesNone))
 }
 
 // What a gitfile says after its key.
@@ -347,15 +351,28 @@ fn common_of<R: Directories>(rt: &R, directory: &str) -> Result<String, Error>
     ensures { Finds string_bytes result (common_of directory.now) (R.answers rt.now) }
 {
     let path = join(rt, directory, "commondir")?;
-    let file = if_there(rt, &path, rt.read(&path))?;
+    let file = read_if_there(rt, &path)?;
     match as_text(rt, &path, file)? {
-        Some(name) if name.is_empty() => Err(Error::text(rt.alloc(), &path, "empty")),
-        Some(name) => {
-            let common = join(rt, directory, without_line_ends(&name))?;
-            Ok(existing_directory(rt, &common)?.path)
-        }
+        Some(name) => common_named(rt, directory, &path, &name),
         None => Ok(String::from_str(rt.alloc(), directory)?),
     }
+}
+
+// The directory that the text of the file `commondir` at a path names.
+#[tactic(auto, unfolding(crate::specs::Discovery::common_named))]
+fn common_named<R: Directories>(
+    rt: &R,
+    directory: &str,
+    path: &str,
+    name: &str,
+) -> Result<String, Error>
+    ensures { Finds string_bytes result (common_named directory.now name.now) (R.answers rt.now) }
+{
+    if name.is_empty() {
+        return Err(Error::text(rt.alloc(), path, TextFault::Empty));
+    }
+    let common = join(rt, directory, without_line_ends(name))?;
+    Ok(existing_directory(rt, &common)?.path)
 }
 
 // Whether a directory has a `HEAD`: a link to a reference, which need not be there, or a file that

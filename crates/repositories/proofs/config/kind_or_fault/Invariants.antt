@@ -7,7 +7,7 @@ invariant-loop-variable l = record {
   fault : first_fault l.left ≡ first_fault l.fn.config.variables.items;
   version : last_of version_of l.version l.left ≡ last_of version_of None l.fn.config.variables.items;
   kind : last_of kind_of l.kind l.left ≡ last_of kind_of None l.fn.config.variables.items;
-  needs : last_of needs_of (option_map (λ name. name.now) l.needs) l.left ≡ last_of needs_of None l.fn.config.variables.items;
+  needs : last_of needs_of l.needs l.left ≡ last_of needs_of None l.fn.config.variables.items;
   unknown : last_of unknown_of (option_map (λ name. name.now) l.unknown) l.left ≡ last_of unknown_of None l.fn.config.variables.items;
 }
 
