@@ -59,18 +59,15 @@ file_number_in found = record { dev = found.state.dev; ino = found.state.ino }
 abbrev pub file_number_at : List ℕ → Answers → Option FileNumber
 file_number_at path at = option_map file_number_in (result_ok (at.look path))
 
--- the directory that a look found, by its path, with its number if that is wanted
-abbrev pub if_directory : Bool → List ℕ → Result Found ErrorKind → Result (List ℕ × Option FileNumber) ErrorKind
-if_directory is_numbered path (Err kind) = Err kind
-if_directory is_numbered path (Ok found) =
-    if found.is_directory then Ok (path, (if is_numbered then Some (file_number_in found) else None)) else Err NotADirectory
-
--- the directory at the absolute path that was answered; or, if that is not UTF-8, at the path itself, with its number
-abbrev pub if_real : List ℕ → Answers → Result (List ℕ) ErrorKind → Result (List ℕ × Option FileNumber) ErrorKind
-if_real path at (Ok real) = if_directory false real (at.look real)
-if_real path at (Err InvalidFilename) = if_directory true path (at.look path)
-if_real path at (Err kind) = Err kind
+-- the directory that was found at a path, by the absolute path that was answered; or, if that is not UTF-8, by the path itself, with its number
+abbrev pub if_real : List ℕ → Found → Result (List ℕ) ErrorKind → Result (List ℕ × Option FileNumber) ErrorKind
+if_real path found (Ok real) = Ok (real, None)
+if_real path found (Err InvalidFilename) = Ok (path, Some (file_number_in found))
+if_real path found (Err kind) = Err kind
 
 -- the directory that a path leads to, by its absolute path without links
 abbrev pub real_directory : List ℕ → Answers → Result (List ℕ × Option FileNumber) ErrorKind
-real_directory path at = if_real path at (at.real path)
+real_directory path at = elim (at.look path) [
+  | Err kind ↦ Err kind
+  | Ok found ↦ if found.is_directory then if_real path found (at.real path) else Err NotADirectory
+]

@@ -8,7 +8,7 @@ ghost use Rattle.std.specs.Str.{IsUtf8};
 ghost use Rattle.std.specs.declared.io.ErrorKind.{ErrorKind};
 ghost use Rattle.repositories.specs.Answers.{Answered, Finds, IfKnown, IsFound, is_memory};
 ghost use Rattle.repositories.specs.Discovery.{ConfigSays, HasKind, HasKindBeside};
-ghost use Rattle.repositories.specs.Lookups.{as_text, if_directory, if_found, if_there, is_file, is_directory, is_missing, real_directory, short_file};
+ghost use Rattle.repositories.specs.Lookups.{as_text, if_found, if_there, is_file, is_directory, is_missing, real_directory, short_file};
 ghost use Rattle.repositories.specs.Views.{directory_of};
 
 use crate::config::kind_in_config;
@@ -178,31 +178,19 @@ pub(crate) struct FileNumber {
 pub(crate) fn real_directory<R: Directories>(rt: &R, path: &str) -> io::Result<RealDirectory>
     ensures { Answered directory_of result (real_directory path.now) (R.answers rt.now) }
 {
-    match rt.real_path(path) {
-        Ok(real) => if_directory(rt, real, false),
-        Err(error) if error.kind() == ErrorKind::InvalidFilename => {
-            if_directory(rt, String::from_str(rt.alloc(), path)?, true)
-        }
-        Err(error) => Err(error),
-    }
-}
-
-// The directory at this path, with its number if that is wanted.
-fn if_directory<R: Directories>(
-    rt: &R,
-    path: String,
-    is_numbered: bool,
-) -> io::Result<RealDirectory>
-    ensures { Answered directory_of result
-        (λ at. if_directory is_numbered (string_bytes path) (at.look (string_bytes path)))
-        (R.answers rt.now) }
-{
-    let found = rt.look(&path)?;
+    // A path that leads to nothing needs no second call, which would look at each directory above.
+    let found = rt.look(path)?;
     if !found.is_directory {
         return Err(ErrorKind::NotADirectory.into());
     }
-    let number = is_numbered.then_some(found.state.number());
-    Ok(RealDirectory { path, number })
+    match rt.real_path(path) {
+        Ok(path) => Ok(RealDirectory { path, number: None }),
+        Err(error) if error.kind() == ErrorKind::InvalidFilename => Ok(RealDirectory {
+            path: String::from_str(rt.alloc(), path)?,
+            number: Some(found.state.number()),
+        }),
+        Err(error) => Err(error),
+    }
 }
 
 // The directory that a path leads to, which has to be there. The error has the path.

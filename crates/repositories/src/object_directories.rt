@@ -236,8 +236,13 @@ impl Walk {
         if path.is_empty() {
             return self.skip(Error::text(rt.alloc(), ALTERNATES, TextFault::PathWithNul));
         }
+        let state = if error.kind() == io::ErrorKind::NotFound {
+            FileState::of_missing(rt, path)
+        } else {
+            FileState::of(rt, path)
+        };
         self.skip(unusable(rt, path, error))?;
-        if let Ok(state) = FileState::of(rt, path) {
+        if let Ok(state) = state {
             self.found.states.push(state)?;
         }
         Ok(())
