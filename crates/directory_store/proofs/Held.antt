@@ -3,16 +3,16 @@ use Rattle.gix_hash.proofs.Std.{◌≡◌, ◌∙◌, ◌∷◌, ◌↔◌, [], 
 use Rattle.std.specs.Result.{result_ok}
 use Rattle.gix_hash.specs.Words.{first_byte_of}
 use Rattle.gix_hash.specs.declared.Kind.{Kind}
-use Rattle.object_store.specs.Stores.{Holds, StoreView}
+use Rattle.object_store.specs.Stores.{AreKnown, StoreView, ids_in}
 use Rattle.pack_index.specs.Format.{HasCounts, names_in}
 use Rattle.pack_index.specs.Lazy.{LazyIndex}
 use Rattle.repositories.specs.Answers.{Answers}
 use Rattle.directory_store.specs.Loose.{HasLoose, bytes_asked}
-use Rattle.directory_store.specs.Opened.{AreObjects, HasIndex, HasObject, HaveCounts}
+use Rattle.directory_store.specs.Opened.{HasIndex, HasObject, HaveCounts, IsObject}
 use Rattle.directory_store.specs.Packs.{ArePacks, bytes_at, packs_of}
 use Rattle.directory_store.specs.Stores.{index_path}
 use Rattle.directory_store.specs.declared.loose.LooseIds.{LooseIds}
-use Rattle.directory_store.specs.declared.packs.PackPaths.{PackPaths}
+use Rattle.directory_store.specs.declared.pack_paths.PackPaths.{PackPaths}
 use Rattle.directory_store.proofs.Members.{flat_from, flat_has, map_from, map_has}
 use Rattle.directory_store.proofs.Packed.{index_from, index_has}
 
@@ -78,24 +78,22 @@ module _ (at : Answers) (which : LooseIds) (view : StoreView) (directories : Lis
       flat_has (names_in view.kind) indexes (bytes_of at view.kind path) id (map_has (bytes_of at view.kind) view.paths path there)
       (subst (λ b. Contains (names_in view.kind b) id) (sym (bytes_is at view.kind path bytes is)) name)
 
-  pub are_held : (ids : List (List ℕ)) → AreObjects at view.kind which directories ids → Holds view ids
-  are_held ids are = record {
+  pub are_known : AreKnown view
+  are_known = record {
     indexes = indexes;
     known = contents ∙ contents_are at view.kind view.paths all_counted;
     are_counted = are_all at view.kind view.paths all_counted;
-    all = record {
-      index = are.index;
-      members = λ id. (
-        λ has.
-            let place = (are.members id).0 has in
-            elim place.2 [
-              | inl file ↦ Contains-append_left packed view.loose id (packed_has id place.0 file.0 file.1 place.1 file.2 file.3 file.4)
-              | inr object ↦ Contains-append_right packed view.loose id ((loose id).1 (place.0, place.1, object.0, object.1))
-            ],
-        λ has. (are.members id).1 (elim (Contains-append_cases packed view.loose id has) [
-          | inl here ↦ packed_from id here
-          | inr here ↦ let place = (loose id).0 here in (place.0, place.1, inr (place.2, place.3))
-        ]),
-      );
-    };
   }
+
+  pub ids_are : (id : List ℕ) → Contains (ids_in view are_known) id ↔ IsObject at view.kind which directories id
+  unfolding are_known
+  ids_are id = (
+    λ has. elim (Contains-append_cases packed view.loose id has) [
+      | inl packs ↦ packed_from id packs
+      | inr object ↦ let place = (loose id).0 object in (place.0, place.1, inr (place.2, place.3))
+    ],
+    λ place. elim place.2 [
+      | inl file ↦ Contains-append_left packed view.loose id (packed_has id place.0 file.0 file.1 place.1 file.2 file.3 file.4)
+      | inr object ↦ Contains-append_right packed view.loose id ((loose id).1 (place.0, place.1, object.0, object.1))
+    ],
+  )

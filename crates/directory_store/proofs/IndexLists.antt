@@ -1,5 +1,5 @@
 -- The pack indexes in directories of packs, name by name and directory by directory.
-use Rattle.gix_hash.proofs.Std.{◌≡◌, ◌∙◌, ◌++◌, ◌∷◌, ◌+◌, ◌<◌, [], Bool, IsSortedBy, List, ap, arith, cond, flat_map_more, get_or, get_or-map, length, length-map, map, refl, true, false, ℕ}
+use Rattle.gix_hash.proofs.Std.{◌≡◌, ◌∙◌, ◌++◌, ◌∷◌, ◌+◌, ◌<◌, [], Bool, IsSortedBy, List, ap, arith, cond, flat_map_more, get_or-map, length, length-map, map, refl, true, false, ℕ}
 use Rattle.std.proofs.lemmas.Slice.Zip.{all_zipped_more}
 use Rattle.std.proofs.lemmas.Str.{IsUtf8-from_is_utf8, is_utf8-from_IsUtf8}
 use Rattle.std.specs.Path.{path_join}

@@ -8,3 +8,5 @@ mod Members
 mod Packed
 mod Held
 mod LooseMembers
+pub mod Wholes
+pub mod AllBytes

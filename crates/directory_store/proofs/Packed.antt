@@ -1,5 +1,5 @@
 -- The pack indexes of several object directories: by the names in their directories of packs.
-use Rattle.gix_hash.proofs.Std.{◌≡◌, ◌∙◌, ◌++◌, ◌-◌, ◌∷◌, [], All-contains, Bool, Contains, Contains-permutation, IsPermutation-sym, IsTrue, List, Option, ap, append_assoc, arith, codes, false, false≢true, filter, flat_map, if◌then◌else◌, length, map, refl, subst, sym, take, true, unwrap_or, zero, suc, ℕ, ◌==◌}
+use Rattle.gix_hash.proofs.Std.{◌≡◌, ◌∙◌, ◌++◌, ◌-◌, ◌∷◌, [], Bool, Contains, Contains-permutation, IsPermutation-sym, IsTrue, List, Option, ap, append_assoc, arith, codes, false, false≢true, filter, flat_map, if◌then◌else◌, length, map, refl, subst, sym, take, true, unwrap_or, zero, suc, ℕ, ◌==◌}
 use Rattle.std.proofs.lemmas.Bool.Decides.{Decides-eqb}
 use Rattle.std.proofs.lemmas.Slice.Eq.{ends_is}
 use Rattle.std.specs.Path.{path_join, slash, with_separator}
@@ -9,8 +9,8 @@ use Rattle.repositories.specs.Answers.{Answers}
 use Rattle.directory_store.specs.Loose.{listed_in}
 use Rattle.directory_store.specs.Opened.{HasIndex}
 use Rattle.directory_store.specs.Packs.{AreIndexesIn, ArePacks, has_pack, index_in, is_found_file, is_index_name, packs_of, split_names}
-use Rattle.directory_store.specs.Stores.{HasPack, index_path}
-use Rattle.directory_store.specs.declared.packs.PackPaths.{PackPaths}
+use Rattle.directory_store.specs.Stores.{index_path}
+use Rattle.directory_store.specs.declared.pack_paths.PackPaths.{PackPaths}
 use Rattle.directory_store.proofs.Members.{flat_from, flat_has, map_from, map_has, zip_from, zip_has}
 
 -- a name of a pack index has a stem
@@ -55,11 +55,11 @@ module _ (at : Answers) (directories : List (List ℕ)) (packs : List PackPaths)
   listed_is directory paths are = ap (λ (names : Option (List ℕ)). unwrap_or names []) are.listed
 
   -- the pack of a pack index is there if and only if that is at its path
-  pack_is : (directory stem path : List ℕ) (pack : PackPaths) → Contains are.indexes pack → index_path pack ≡ path → path ≡ path_join directory (stem ++ codes ".idx")
+  pack_is : (directory stem path : List ℕ) (pack : PackPaths) → index_path pack ≡ path → path ≡ path_join directory (stem ++ codes ".idx")
       → has_pack at pack ≡ is_found_file (at.look (path_join directory (stem ++ codes ".pack")))
-  pack_is directory stem path pack has same is =
+  pack_is directory stem path pack same is =
       let both = both_begin directory stem in
-      ap (λ (p : List ℕ). is_found_file (at.look p)) (All-contains HasPack are.indexes pack are.own has both.front (same ∙ is ∙ both.index) ∙ sym both.pack)
+      ap (λ (p : List ℕ). is_found_file (at.look p)) (pack.beside both.front (same ∙ is ∙ both.index) ∙ sym both.pack)
 
   pub index_from : (path : List ℕ) → Contains (map index_path packs) path → (directory : List ℕ) × Contains directories directory × HasIndex at directory path
   index_from path has =
@@ -86,7 +86,7 @@ module _ (at : Answers) (directories : List (List ℕ)) (packs : List PackPaths)
               (subst (Contains all) stem.1 (contains_had is_index_name all name chosen));
           is_text = subst (λ (n : List ℕ). IsTrue (is_utf8 n)) stem.1 one.0;
           is_path = is;
-          has_pack = sym (pack_is (packs_of directory.0) stem.0 path pack.0 there pack.2 is) ∙ kept_passes (has_pack at) are.indexes pack.0 kept;
+          has_pack = sym (pack_is (packs_of directory.0) stem.0 path pack.0 pack.2 is) ∙ kept_passes (has_pack at) are.indexes pack.0 kept;
         },
       )
 
@@ -104,5 +104,5 @@ module _ (at : Answers) (directories : List (List ℕ)) (packs : List PackPaths)
       let listed : Contains (map index_path are.indexes) path =
       subst (λ (l : List (List ℕ)). Contains l path) (sym are.listed.all) (flat_has (λ (l : List (List ℕ)). l) are.listed.found place.0 path place.1 here) in
       let pack = map_from index_path are.indexes path listed in
-      let kept = contains_kept (has_pack at) are.indexes pack.0 pack.1 (pack_is (packs_of directory) index.stem path pack.0 pack.1 pack.2 index.is_path ∙ index.has_pack) in
+      let kept = contains_kept (has_pack at) are.indexes pack.0 pack.1 (pack_is (packs_of directory) index.stem path pack.0 pack.2 index.is_path ∙ index.has_pack) in
       subst (Contains (map index_path packs)) pack.2 (map_has index_path packs pack.0 (subst (λ (l : List PackPaths). Contains l pack.0) (sym are.all) kept))

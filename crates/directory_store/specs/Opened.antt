@@ -6,14 +6,18 @@ use Rattle.std.specs.Str.{is_utf8}
 use Rattle.gix_hash.specs.Words.{first_byte_of}
 use Rattle.gix_hash.specs.declared.Kind.{Kind}
 use Rattle.id_lookup.specs.Words.{IsIndex}
-use Rattle.object_store.specs.Stores.{Holds, StoreView}
+use Rattle.object_store.specs.Stores.{AreKnown, StoreView, ids_in}
 use Rattle.pack_index.specs.Format.{HasCounts, names_in}
+use Rattle.pack_index.specs.Lazy.{LazyIndex}
 use Rattle.repositories.specs.Answers.{Answers}
 use Rattle.repositories.specs.Walks.{with_alternates}
 use Rattle.repositories.specs.declared.finding.ObjectDirectory.{ObjectDirectory}
-use Rattle.directory_store.specs.Loose.{HasLoose, bytes_asked, listed_in}
-use Rattle.directory_store.specs.Packs.{is_found_file, packs_of, split_names}
+use Rattle.directory_store.specs.Loose.{AreLoose, HasLoose, bytes_asked, listed_in}
+use Rattle.directory_store.specs.Packs.{ArePacks, bytes_at, is_found_file, packs_of, split_names}
+use Rattle.directory_store.specs.Stores.{index_path}
 use Rattle.directory_store.specs.declared.loose.LooseIds.{LooseIds}
+use Rattle.directory_store.specs.declared.loose.LooseObjects.{LooseObjects}
+use Rattle.directory_store.specs.declared.pack_paths.PackPaths.{PackPaths}
 
 -- an object directory has a pack index at this path, whose pack is there
 pub record HasIndex (at : Answers) (directory path : List ℕ) : Type 0 where
@@ -33,15 +37,42 @@ HasObject at kind which directory digits =
     ((path : List ℕ) × (bytes : List ℕ) × HasIndex at directory path × (at.bytes path ≡ Ok bytes) × Contains (names_in kind bytes) digits)
     ⊎ (Contains (bytes_asked which) (first_byte_of digits) × HasLoose at kind directory digits)
 
+-- one of the object directories has the object
+abbrev pub IsObject : Answers → Kind → LooseIds → List (List ℕ) → List ℕ → Type 0
+IsObject at kind which directories digits = (directory : List ℕ) × Contains directories directory × HasObject at kind which directory digits
+
 -- these are the ids, in order, of the objects that some object directories have
 pub record AreObjects (at : Answers) (kind : Kind) (which : LooseIds) (directories ids : List (List ℕ)) : Type 0 where
   pub index : IsIndex kind ids
-  pub members : (digits : List ℕ) → Contains ids digits ↔ ((directory : List ℕ) × Contains directories directory × HasObject at kind which directory digits)
+  pub members : (digits : List ℕ) → Contains ids digits ↔ IsObject at kind which directories digits
 
 -- a store has exactly the objects that some object directories have, if the fan-out table of each of their pack indexes is right
 pub record HasAll (at : Answers) (which : LooseIds) (directories : List (List ℕ)) (view : StoreView) : Type 0 where
-  pub holds : (ids : List (List ℕ)) → HaveCounts at view.kind directories → AreObjects at view.kind which directories ids → Holds view ids
+  pub are_known : HaveCounts at view.kind directories → AreKnown view
+  pub members : (counted : HaveCounts at view.kind directories) (digits : List ℕ) → Contains (ids_in view (are_known counted)) digits ↔ ∥ IsObject at view.kind which directories digits ∥₁
+
+-- where an object directory is: its path, and those of the alternates that the environment adds
+abbrev pub place_of : ObjectDirectory → List ℕ × List (List ℕ)
+place_of objects = (string_bytes objects.path, map string_bytes objects.alternates.items)
 
 -- these are the paths of an object directory and of its alternates, of which none is skipped
 abbrev pub AreWithAlternates : Answers → ObjectDirectory → List (List ℕ) → Type 0
-AreWithAlternates at objects directories = with_alternates (string_bytes objects.path) (map string_bytes objects.alternates.items) at ≡ Some (directories, 0)
+AreWithAlternates at objects directories = let place = place_of objects in with_alternates place.0 place.1 at ≡ Some (directories, 0)
+
+-- a store has exactly the objects of an object directory and its alternates
+abbrev pub HasAllOf : Answers → LooseIds → ObjectDirectory → StoreView → Type 0
+HasAllOf at which objects view = (directories : List (List ℕ)) × AreWithAlternates at objects directories × HasAll at which directories view
+
+-- How a store has them.
+
+-- of an object directory and its alternates these are the paths of all pack indexes with packs, and these the pack indexes
+pub record AreOpened (at : Answers) (objects : ObjectDirectory) (directories paths : List (List ℕ)) (indexes : List LazyIndex) : Type 0 where
+  pub alternates : AreWithAlternates at objects directories
+  pub packs : List PackPaths
+  pub listed : ArePacks at (map packs_of directories) packs
+  pub all : paths ≡ map index_path packs
+  pub contents : map (λ (index : LazyIndex). index.content) indexes ≡ map (bytes_at at) paths
+
+-- these loose objects were listed in object directories
+abbrev pub AreLooseOf : Answers → Kind → List (List ℕ) → LooseObjects → Type 0
+AreLooseOf at kind directories loose = AreLoose at kind loose.which directories loose.directories.items

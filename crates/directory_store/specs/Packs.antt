@@ -1,5 +1,5 @@
 -- Which packs there are: by what directories and files answer.
-use Rattle.std.specs.Prelude.{ℕ, ◌≡◌, ◌==◌, ◌∷◌, All, Bool, Err, List, [], None, Ok, Option, Result, Some, codes, false, flat_map, if◌then◌else◌, map, nat_eq}
+use Rattle.std.specs.Prelude.{ℕ, ◌≡◌, ◌==◌, ◌∷◌, Bool, Err, List, [], None, Ok, Option, Result, Some, codes, false, flat_map, if◌then◌else◌, map, nat_eq}
 use Rattle.std.specs.Cmp.Lexicographic.{slice_cmp}
 use Rattle.std.specs.List.{AllZip, ends_with, filter, slice_split}
 use Rattle.std.specs.List.Sorted.{IsPermutation, IsSorted}
@@ -11,8 +11,8 @@ use Rattle.std.specs.declared.io.ErrorKind.{ErrorKind}
 use Rattle.std.specs.declared.io.ErrorKind.TheVariants.{NotFound}
 use Rattle.repositories.specs.Answers.{Answers}
 use Rattle.repositories.specs.declared.directories.Found.{Found}
-use Rattle.directory_store.specs.Stores.{HasPack, index_path, pack_path_of}
-use Rattle.directory_store.specs.declared.packs.PackPaths.{PackPaths}
+use Rattle.directory_store.specs.Stores.{index_path, pack_path_of}
+use Rattle.directory_store.specs.declared.pack_paths.PackPaths.{PackPaths}
 
 -- the directory of packs of an object directory
 abbrev pub packs_of : List ℕ → List ℕ
@@ -72,7 +72,6 @@ has_pack at paths = is_found_file (at.look (pack_path_of paths))
 pub record ArePacks (at : Answers) (directories : List (List ℕ)) (packs : List PackPaths) : Type 0 where
   pub indexes : List PackPaths
   pub listed : AreIndexes at directories (map index_path indexes)
-  pub own : All HasPack indexes
   pub all : packs ≡ filter (has_pack at) indexes
 
 -- the bytes of a file, as a read of it answered; or none, if it failed

@@ -1,5 +1,5 @@
 -- What contracts say of object stores in directories.
-use Rattle.std.specs.Prelude.{ℕ, ◌≡◌, ◌≢◌, ◌⊎◌, ◌++◌, All, Bool, IsSomeAnd, List, [], ◌∷◌, MatchOption, Option, None, Some, false, if◌then◌else◌, bytes_eq, codes, flat_map, map, option_to_list, string_bytes, true}
+use Rattle.std.specs.Prelude.{ℕ, ◌≡◌, ◌≢◌, ◌⊎◌, ◌++◌, All, Bool, IsSomeAnd, List, [], ◌∷◌, MatchOption, Option, None, Some, false, if◌then◌else◌, bytes_eq, flat_map, map, option_to_list, string_bytes, true}
 use Rattle.std.specs.List.{AllZip, Contains, list_any}
 use Rattle.std.specs.declared.time.SystemTime.{SystemTime}
 use Rattle.gix_hash.specs.Words.{AreIdDigits, hex_letter, id_digits, id_kind, spelling}
@@ -21,12 +21,16 @@ use Rattle.directory_store.specs.declared.error.Error.TheVariants.{Changed, Inde
 use Rattle.directory_store.specs.declared.loose.LooseDirectory.{LooseDirectory}
 use Rattle.directory_store.specs.declared.loose.LooseIds.{LooseIds}
 use Rattle.directory_store.specs.declared.loose.LooseIds.TheVariants as loose_ids
-use Rattle.directory_store.specs.declared.packs.PackPaths.{PackPaths}
+use Rattle.directory_store.specs.declared.pack_paths.PackPaths.{PackPaths}
 
 -- the only first byte that loose objects have, if not all are listed
 abbrev pub only_of : LooseIds → Option ℕ
 only_of loose_ids.All = None
 only_of (loose_ids.WithFirstByte byte) = Some byte
+
+-- loose objects with this first byte are listed
+abbrev pub IsListedBy : LooseIds → ℕ → Type 0
+IsListedBy which byte = (only : ℕ) → only_of which ≡ Some only → byte ≡ only
 
 -- in how many fan-out directories of an object directory the loose objects that are listed can be
 abbrev pub fan_outs_of : LooseIds → ℕ
@@ -84,10 +88,6 @@ pack_path_of paths = string_bytes paths.pack
 -- a pack index of this path is among those listed
 abbrev pub IsListedPack : List PackPaths → PackPaths → Type 0
 IsListedPack listed paths = Contains (map index_path listed) (index_path paths)
-
--- the path of a pack is that of its pack index, with another end
-abbrev pub HasPack : PackPaths → Type 0
-HasPack paths = (stem : List ℕ) → index_path paths ≡ stem ++ codes ".idx" → pack_path_of paths ≡ stem ++ codes ".pack"
 
 -- the error that an error of a repository is
 abbrev pub of_repository : repositories.Error → Error

@@ -1,11 +1,13 @@
 //! Laws of opened stores that belong to no single call. Each is the contract of a function that
 //! computes nothing: a call of it brings the law into a caller's proof.
 
-ghost use Rattle.std.specs.Prelude.{◌≡◌, ◌≤◌, ℕ, List, length, map};
+ghost use Rattle.std.specs.Prelude.{◌≡◌, ◌↔◌, ◌≤◌, ℕ, Contains, IsTrue, List, length, map, nat_eq};
+ghost use Rattle.std.specs.List.{starts_with};
 ghost use Rattle.id_lookup.specs.Words.{ObjectId, first_byte_of, id_digits, matches};
 ghost use Rattle.object_store.specs.Stores.{AreIdsRead, AreMatches, IsNameIn, StoreView};
 ghost use Rattle.repositories.specs.Answers.{Answers};
-ghost use Rattle.directory_store.specs.Opened.{AreObjects, HasAll, HaveCounts};
+ghost use Rattle.directory_store.specs.Opened.{AreObjects, HasAll, HaveCounts, IsObject};
+ghost use Rattle.directory_store.specs.Stores.{IsListedBy};
 ghost use Rattle.directory_store.specs.declared.loose.LooseIds.{LooseIds};
 
 /// What is found in a store that [`DirectoryStore::open`](crate::DirectoryStore::open) has opened,
@@ -16,14 +18,20 @@ pub fn opened()
     ensures found { (at : Answers) (which : LooseIds) (directories objects : List (List ℕ))
         (view : StoreView) (prefix : List ℕ) (ids : List ObjectId)
         → HasAll at which directories view → HaveCounts at view.kind directories
-        → AreObjects at view.kind which directories objects → 2 ≤ length prefix
+        → AreObjects at view.kind LooseIds.All directories objects
+        → IsListedBy which (first_byte_of prefix) → 2 ≤ length prefix
         → AreMatches view prefix ids → map id_digits ids ≡ matches prefix objects }
+    ensures members { (at : Answers) (which : LooseIds) (directories : List (List ℕ))
+        (view : StoreView) (prefix : List ℕ) (ids : List ObjectId)
+        → HasAll at which directories view → HaveCounts at view.kind directories
+        → 2 ≤ length prefix → AreMatches view prefix ids → (digits : List ℕ)
+        → Contains (map id_digits ids) digits ↔ (IsTrue (starts_with nat_eq digits prefix)
+        × ∥ IsObject at view.kind which directories digits ∥₁) }
     ensures named { (at : Answers) (which : LooseIds) (directories objects : List (List ℕ))
         (view : StoreView) (read : List (List ℕ)) (least : ℕ) (id name : List ℕ)
         → HasAll at which directories view → HaveCounts at view.kind directories
-        → AreObjects at view.kind which directories objects
+        → AreObjects at view.kind LooseIds.All directories objects
+        → IsListedBy which (first_byte_of id)
         → AreIdsRead view (first_byte_of id) read → 2 ≤ least
         → IsNameIn least read id name → IsNameIn least objects id name }
-{
-    object_store::laws::whole();
-}
+{}

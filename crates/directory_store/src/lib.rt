@@ -10,6 +10,7 @@ mod error;
 pub mod laws;
 mod listing;
 mod loose;
+mod pack_paths;
 mod packs;
 /// Paths of loose objects.
 pub mod paths;

@@ -1,6 +1,6 @@
 //! The loose objects in object directories, by the names of their files.
 
-ghost use Rattle.std.specs.Prelude.{◌≡◌, ◌≢◌, ◌<◌, ◌*◌, ◌++◌, ◌∷◌, ◌==◌, All, IfOk, IfSome, IsNone, MatchOption, None, OnOk, false, length, map, string_bytes, vec_len};
+ghost use Rattle.std.specs.Prelude.{◌≡◌, ◌≢◌, ◌<◌, ◌*◌, ◌++◌, ◌∷◌, ◌==◌, All, Contains, IfOk, IfSome, IsNone, MatchOption, None, OnOk, false, length, map, string_bytes, vec_len};
 ghost use Rattle.std.specs.List.{slice_split};
 ghost use Rattle.gix_hash.specs.Words.{hex_letter, id_digits, id_kind};
 ghost use Rattle.repositories.specs.Answers.{Answers, IfKnown};
@@ -87,6 +87,8 @@ pub(crate) fn take_loose(
     ensures none { IsNone result → All (λ loose. loose.which ≢ which) listed.old.items }
     ensures kind { IfSome result (λ loose. loose.kind ≡ kind) }
     ensures rest { All (λ loose. loose.kind ≡ kind) listed.new.items }
+    ensures taken { IfSome result (Contains listed.old.items) }
+    ensures left { All (Contains listed.old.items) listed.new.items }
 {
     let at = listed.iter().position(|loose| loose.which == which)?;
     Some(listed.remove(at))

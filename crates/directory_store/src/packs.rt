@@ -1,16 +1,18 @@
 //! The pack indexes in object directories.
 
-ghost use Rattle.std.specs.Prelude.{◌≡◌, ◌⊎◌, ◌↔◌, ◌+◌, ◌++◌, ℕ, All, IfOk, IsNone, IsSomeAnd, IsTrue, List, OnOk, [], flat_map, length, map, string_bytes, true, vec_len};
+ghost use Rattle.std.specs.Prelude.{◌≡◌, ◌⊎◌, ◌↔◌, ◌+◌, ◌++◌, ℕ, All, IfOk, if◌then◌else◌, IsNone, IsSomeAnd, IsTrue, List, OnOk, [], flat_map, length, map, string_bytes, true, vec_len};
 ghost use Rattle.std.specs.List.{filter};
 ghost use Rattle.std.specs.Path.{path_join};
+ghost use Rattle.std.specs.Str.{is_utf8};
 ghost use Rattle.pack_index.specs.declared.lazy_error.LazyError.TheVariants as errors;
 ghost use Rattle.repositories.specs.Answers.{IfKnown};
 ghost use Rattle.repositories.specs.States.{IsSettled};
 ghost use Rattle.directory_store.specs.Packs.{AreIndexNames, AreIndexes, AreIndexesIn, ArePacks, bytes_at, has_pack, index_in, packs_of, split_names};
-ghost use Rattle.directory_store.specs.Stores.{HasPack, IsListedPack, IsIndexError, IsUnread, index_path, pack_path_of};
+ghost use Rattle.directory_store.specs.Stores.{IsListedPack, IsIndexError, IsUnread, index_path};
 
 use crate::error::Error;
 use crate::listing::{are_settled, expect_states, list_names, states_of};
+use crate::pack_paths::PackPaths;
 use crate::source::{StoreFiles, most_kept_of};
 use gix_hash::Kind;
 use pack_index::{LazyError, LazyFile};
@@ -60,7 +62,6 @@ impl PackDirectories {
     // The pack indexes in them, with or without packs.
     pub(crate) fn list<R: Directories>(&self, rt: &R) -> Result<PackIndexes, Error>
         ensures all { IfOk result (λ listed. listed.are_all ≡ true) }
-        ensures packs { IfOk result (λ listed. All HasPack listed.paths.items) }
         ensures indexes { IfOk result (λ listed. IfKnown (λ at. AreIndexes at
             (map string_bytes self.now.paths.items) (map index_path listed.paths.items))
             (R.answers rt.now)) }
@@ -105,25 +106,6 @@ impl PackDirectories {
     // Fails if one of them has changed.
     pub(crate) fn expect_unchanged<R: Directories>(&self, rt: &R) -> Result<(), Error> {
         expect_states(rt, &self.paths, &self.states)
-    }
-}
-
-// The paths of a pack index and of its pack.
-#[derive(Drop)]
-pub(crate) struct PackPaths {
-    pub(crate) index: String,
-    pub(crate) pack: String,
-}
-
-impl PackPaths {
-    // The same paths.
-    fn copy(&self) -> Result<PackPaths, AllocError>
-        ensures index { IfOk result (λ copy. index_path copy ≡ index_path self.now) }
-        ensures pack { IfOk result (λ copy. pack_path_of copy ≡ pack_path_of self.now) }
-    {
-        let index = self.index.clone()?;
-        let pack = self.pack.clone()?;
-        Ok(PackPaths { index, pack })
     }
 }
 
@@ -191,8 +173,6 @@ fn push_indexes<R: Directories>(
     directory: &str,
     indexes: &mut PackIndexes,
 ) -> Result<(), Error>
-    ensures packs { OnOk result (All HasPack indexes.old.paths.items
-        → All HasPack indexes.new.paths.items) }
     ensures all { indexes.new.are_all ≡ indexes.old.are_all }
     ensures indexes { OnOk result (IfKnown (λ at. (paths : List (List ℕ))
         × AreIndexesIn at directory.now paths × (map index_path indexes.new.paths.items
@@ -211,8 +191,6 @@ fn push_names(
     names: &[&[u8]],
     indexes: &mut PackIndexes,
 ) -> Result<(), AllocError>
-    ensures packs { OnOk result (All HasPack indexes.old.paths.items
-        → All HasPack indexes.new.paths.items) }
     ensures all { indexes.new.are_all ≡ indexes.old.are_all }
     ensures indexes { OnOk result (map index_path indexes.new.paths.items
         ≡ map index_path indexes.old.paths.items
@@ -242,9 +220,9 @@ fn push_index(
     name: &[u8],
     indexes: &mut PackIndexes,
 ) -> Result<(), AllocError>
-    ensures packs { OnOk result (All HasPack indexes.old.paths.items
-        → All HasPack indexes.new.paths.items) }
     ensures all { indexes.new.are_all ≡ indexes.old.are_all }
+    ensures skipped { OnOk result (vec_len indexes.new.skipped
+        ≡ vec_len indexes.old.skipped + (if is_utf8 name.now then 0 else 1)) }
     ensures index { OnOk result (map index_path indexes.new.paths.items
         ≡ map index_path indexes.old.paths.items ++ index_in directory.now name.now) }
 {
@@ -261,9 +239,7 @@ fn push_index(
 
 // The paths of the pack index of this name in a directory, and of its pack.
 fn paths_of(rt: &impl AllocGlobal, directory: &str, name: &str) -> Result<PackPaths, AllocError>
-    ensures pack { IfOk result HasPack }
-    ensures index { IfOk result (λ paths. index_path paths
-        ≡ path_join directory.now name.now) }
+    ensures { IfOk result (λ paths. index_path paths ≡ path_join directory.now name.now) }
 {
     let index = join(rt, directory, name)?;
     let stem = index.strip_suffix(".idx").unwrap_or(&index);

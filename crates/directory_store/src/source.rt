@@ -1,6 +1,6 @@
 //! What a pack index is read from.
 
-ghost use Rattle.std.specs.Prelude.{◌≡◌, ◌↔◌, ◌+◌, ◌-◌, ◌≤◌, IfOk, IsSome, None, false, length, max, string_bytes, true, vec_len};
+ghost use Rattle.std.specs.Prelude.{◌≡◌, ◌↔◌, ◌+◌, ◌-◌, ◌≤◌, IfOk, IsSome, None, false, length, max, refl, string_bytes, true, vec_len};
 ghost use Rattle.repositories.specs.Answers.{IfKnown};
 ghost use Rattle.directory_store.specs.Packs.{bytes_at};
 ghost use Rattle.streams.specs.Streams.{IsReadAt};
@@ -25,7 +25,7 @@ const CLOSED_LEN: usize = 16384;
 /// let source = rt.open_source("pack-1.idx", true, 1 << 20)?;
 /// let index = pack_index::LazyFile::open(source, Kind::Sha1)?;
 /// ```
-pub trait StoreFiles: Directories {
+pub trait StoreFiles: Directories + Clone {
     /// What the bytes of a file are read from.
     type Source: ReadAt + Drop;
 
@@ -35,6 +35,10 @@ pub trait StoreFiles: Directories {
         ensures path { IfOk result (λ source. Self.Source.path source ≡ path.now) }
         ensures content { IfOk result (λ source. IfKnown (λ at. Self.Source.content source
             ≡ bytes_at at path.now) (Self.answers self.now)) };
+
+    /// A clone answers alike.
+    ghost alike: { (rt other : Self) → Self.is_clone rt other
+        → Self.answers other ≡ Self.answers rt };
 }
 
 /// What a file of the host contains is not known.
@@ -49,6 +53,8 @@ impl<R: Files<File = File> + AllocGlobal + Clone + Drop> StoreFiles for R {
     ) -> io::Result<StoreFile<R>> {
         StoreFile::open(self, path, stays_open, most_kept)
     }
+
+    ghost alike = { λ rt other cloned. refl };
 }
 
 /// A file of a store, with its length as it was opened. A read of fewer than 4096 bytes takes 4096,

@@ -1,16 +1,17 @@
 //! An object store in directories.
 
-ghost use Rattle.std.specs.Prelude.{◌≡◌, ◌<◌, ◌↔◌, ◌++◌, All, Contains, IfErr, IfOk, IsOk, IsTrue, OnOk, [], false, length, map, slice_index_or, string_bytes, true, vec_len};
+ghost use Rattle.std.specs.Prelude.{◌≡◌, ◌<◌, ◌≤◌, ◌↔◌, ◌+◌, ◌++◌, ◌∷◌, All, Contains, IfErr, IfOk, IsOk, IsTrue, OnOk, [], false, length, map, slice_index_or, string_bytes, true, vec_capacity, vec_len};
 ghost use Rattle.gix_hash.specs.Words.{hex_len_of, id_digits};
 ghost use Rattle.repositories.specs.Answers.{IfKnown};
 ghost use Rattle.directory_store.specs.Loose.{AreLoose};
-ghost use Rattle.directory_store.specs.Opened.{AreWithAlternates, HasAll};
+ghost use Rattle.directory_store.specs.Opened.{AreLooseOf, AreOpened, HasAllOf, place_of};
 ghost use Rattle.directory_store.specs.Packs.{ArePacks};
 ghost use Rattle.directory_store.specs.Stores.{AreSettled, IsChanged, index_path, of_repository, pack_path_of};
 
 use crate::error::Error;
 use crate::loose::{LooseIds, LooseObjects, check_loose_file, list_loose, push_path, take_loose};
-use crate::packs::{PackDirectories, PackIndexes, PackPaths, open_indexes};
+use crate::pack_paths::PackPaths;
+use crate::packs::{PackDirectories, PackIndexes, open_indexes};
 use crate::source::StoreFiles;
 use gix_hash::{Kind, ObjectId, Prefix};
 use object_store::{LooseTable, Reopen, Store, StorePaths};
@@ -54,9 +55,15 @@ pub struct DirectoryStore<R: StoreFiles> {
     ghost of_kind: { All (λ index. index.kind ≡ directory.kind) indexes.items },
     ghost loose_of_kind: { loose.kind ≡ directory.kind },
     ghost before_of_kind: { All (λ loose. loose.kind ≡ directory.kind) loose_before.items },
+    ghost are_opened: { ∥ (skipped.items ≡ [] → IfKnown (λ at. AreOpened at directory
+        (map string_bytes directories.paths.items) (map index_path packs.items) indexes.items)
+        (R.answers rt)) ∥₁ },
+    ghost are_loose: { ∥ IfKnown (λ at. All (AreLooseOf at directory.kind
+        (map string_bytes directories.paths.items)) (loose ∷ loose_before.items))
+        (R.answers rt) ∥₁ },
 }
 
-impl<R: StoreFiles + Clone + Drop> DirectoryStore<R> {
+impl<R: StoreFiles> DirectoryStore<R> {
     /// Opens the store of an object directory, whose ids are of the directory's kind.
     ///
     /// No object is missed that is packed, unpacked or moved into another directory meanwhile, as
@@ -67,8 +74,7 @@ impl<R: StoreFiles + Clone + Drop> DirectoryStore<R> {
     /// The directory's alternates are read as by Git: each once, and nested up to 5 times. Those
     /// that cannot be used are skipped ([`DirectoryStore::skipped`]). A missing directory `pack` or
     /// fan-out directory is no error; any other failure is one, with the path:
-    /// [`Error::Repository`], or [`Error::Index`] for a pack index that cannot be read. So is
-    /// [`Error::Memory`].
+    /// [`Error::Repository`]. So is [`Error::Memory`].
     ///
     /// ```
     /// let directory = ObjectDirectory::at(rt, ".git/objects")?;
@@ -81,12 +87,11 @@ impl<R: StoreFiles + Clone + Drop> DirectoryStore<R> {
     ) -> Result<DirectoryStore<R>, Error>
         ensures kind { IfOk result (λ store. store.directory.kind ≡ directory.now.kind) }
         ensures listed { IfOk result (λ store. store.loose.which ≡ loose) }
-        ensures directories { IfOk result (λ store. store.skipped.items ≡ [] → IfKnown (λ at.
-            AreWithAlternates at directory.now (map string_bytes store.directories.paths.items))
-            (R.answers rt.now)) }
-        ensures objects { IfOk result (λ store. store.skipped.items ≡ [] → IfKnown (λ at.
-            HasAll at loose (map string_bytes store.directories.paths.items)
-            (⟦<DirectoryStore<R> as Store>⟧.view store)) (R.answers rt.now)) }
+        ensures place { IfOk result (λ store. place_of store.directory ≡ place_of directory.now) }
+        ensures answers { IfOk result (λ store. R.answers store.rt ≡ R.answers rt.now) }
+        ensures objects { IfOk result (λ store. store.skipped.items ≡ [] → IfKnown (λ at. HasAllOf at
+            store.loose.which store.directory (⟦<DirectoryStore<R> as Store>⟧.view store))
+            (R.answers store.rt)) }
     {
         DirectoryStore::open_at(rt, directory, loose, None)
     }
@@ -100,12 +105,8 @@ impl<R: StoreFiles + Clone + Drop> DirectoryStore<R> {
     ) -> Result<DirectoryStore<R>, Error>
         ensures kind { IfOk result (λ store. store.directory.kind ≡ directory.now.kind) }
         ensures listed { IfOk result (λ store. store.loose.which ≡ loose) }
-        ensures directories { IfOk result (λ store. store.skipped.items ≡ [] → IfKnown (λ at.
-            AreWithAlternates at directory.now (map string_bytes store.directories.paths.items))
-            (R.answers rt.now)) }
-        ensures objects { IfOk result (λ store. store.skipped.items ≡ [] → IfKnown (λ at.
-            HasAll at loose (map string_bytes store.directories.paths.items)
-            (⟦<DirectoryStore<R> as Store>⟧.view store)) (R.answers rt.now)) }
+        ensures place { IfOk result (λ store. place_of store.directory ≡ place_of directory.now) }
+        ensures answers { IfOk result (λ store. R.answers store.rt ≡ R.answers rt.now) }
     {
         for _ in 1..MAX_TRIES {
             let opened = DirectoryStore::read(rt, directory, loose, now);
@@ -125,12 +126,8 @@ impl<R: StoreFiles + Clone + Drop> DirectoryStore<R> {
     ) -> Result<DirectoryStore<R>, Error>
         ensures kind { IfOk result (λ store. store.directory.kind ≡ directory.now.kind) }
         ensures listed { IfOk result (λ store. store.loose.which ≡ loose) }
-        ensures directories { IfOk result (λ store. store.skipped.items ≡ [] → IfKnown (λ at.
-            AreWithAlternates at directory.now (map string_bytes store.directories.paths.items))
-            (R.answers rt.now)) }
-        ensures objects { IfOk result (λ store. store.skipped.items ≡ [] → IfKnown (λ at.
-            HasAll at loose (map string_bytes store.directories.paths.items)
-            (⟦<DirectoryStore<R> as Store>⟧.view store)) (R.answers rt.now)) }
+        ensures place { IfOk result (λ store. place_of store.directory ≡ place_of directory.now) }
+        ensures answers { IfOk result (λ store. R.answers store.rt ≡ R.answers rt.now) }
         ensures settled { IfOk result (λ store. store.is_settled ≡ true
             → (store.skipped.items ≡ []) × AreSettled now store.pack_directories.states.items) }
     {
@@ -179,7 +176,8 @@ impl<R: StoreFiles + Clone + Drop> DirectoryStore<R> {
     /// What was changed less than 20 ms before it was read is read again, and so is what
     /// [`DirectoryStore::open`] has read, and a store of which something is skipped: see
     /// [`FileState::is_settled`](repositories::FileState::is_settled). The errors are those of
-    /// `open`, after which no pack index may be left; the next call then reads the store again.
+    /// `open`, after which no pack index may be left; [`DirectoryStore::skipped`] then says that the
+    /// store has changed, and the next call reads it again.
     ///
     /// ```
     /// let directory = find_objects(rt)?;
@@ -188,6 +186,11 @@ impl<R: StoreFiles + Clone + Drop> DirectoryStore<R> {
     /// ```
     pub fn refresh(&mut self, loose: LooseIds, now: SystemTime) -> Result<bool, Error>
         ensures kind { self.new.directory.kind ≡ self.old.directory.kind }
+        ensures place { place_of self.new.directory ≡ place_of self.old.directory }
+        ensures answers { R.answers self.new.rt ≡ R.answers self.old.rt }
+        ensures objects { OnOk result (self.new.skipped.items ≡ [] → IfKnown (λ at. HasAllOf at
+            self.new.loose.which self.new.directory (⟦<DirectoryStore<R> as Store>⟧.view self.new))
+            (R.answers self.new.rt)) }
         ensures listed { IfOk result (λ _. self.new.loose.which ≡ loose) }
         ensures same { IfOk result (λ is_same. is_same ≡ true
             → (self.new.indexes.items ≡ self.old.indexes.items)
@@ -200,16 +203,31 @@ impl<R: StoreFiles + Clone + Drop> DirectoryStore<R> {
             looked => return looked,
         }
         // Its files are closed before as many are opened. If that fails, the next call opens them.
-        self.is_settled = false;
-        self.packs = Vec::new(self.rt.alloc());
-        self.indexes = Vec::new(self.rt.alloc());
+        self.close()?;
         *self = DirectoryStore::open_at(&self.rt, &self.directory, loose, Some(now))?;
         Ok(false)
     }
 
+    // Closes all pack indexes. What is skipped says that the store has changed.
+    fn close(&mut self) -> Result<(), Error>
+        ensures directory { self.new.directory ≡ self.old.directory }
+        ensures rt { self.new.rt ≡ self.old.rt }
+        ensures settled { OnOk result (self.new.is_settled ≡ false) }
+        ensures left { IfErr result (λ _. self.new.indexes.items ≡ self.old.indexes.items) }
+    {
+        let mut skipped = Vec::new(self.rt.alloc());
+        skipped.push(Error::changed(self.rt.alloc(), &self.directory.path))?;
+        self.skipped = skipped;
+        self.is_settled = false;
+        self.packs = Vec::new(self.rt.alloc());
+        self.indexes = Vec::new(self.rt.alloc());
+        Ok(())
+    }
+
     // The same, but for a change of packs or alternates, which is an error.
     fn look_again(&mut self, loose: LooseIds, now: SystemTime) -> Result<bool, Error>
-        ensures kind { self.new.directory.kind ≡ self.old.directory.kind }
+        ensures directory { self.new.directory ≡ self.old.directory }
+        ensures rt { self.new.rt ≡ self.old.rt }
         ensures listed { IfOk result (λ _. self.new.loose.which ≡ loose) }
         ensures indexes { self.new.indexes.items ≡ self.old.indexes.items }
         ensures same { IfOk result (λ is_same. is_same ≡ true → self.new.loose ≡ self.old.loose) }
@@ -246,7 +264,11 @@ impl<R: StoreFiles + Clone + Drop> DirectoryStore<R> {
     fn loose_now(&mut self, loose: LooseIds, now: SystemTime) -> Result<LooseObjects, Error>
         ensures which { IfOk result (λ objects. objects.which ≡ loose) }
         ensures of_kind { IfOk result (λ objects. objects.kind ≡ self.old.directory.kind) }
-        ensures kind { self.new.directory.kind ≡ self.old.directory.kind }
+        ensures are_loose { IfOk result (λ objects. ∥ IfKnown (λ at. AreLooseOf at
+            self.new.directory.kind (map string_bytes self.new.directories.paths.items) objects)
+            (R.answers self.new.rt) ∥₁) }
+        ensures directory { self.new.directory ≡ self.old.directory }
+        ensures rt { self.new.rt ≡ self.old.rt }
         ensures indexes { self.new.indexes.items ≡ self.old.indexes.items }
         ensures loose { self.new.loose ≡ self.old.loose }
     {
@@ -272,7 +294,10 @@ impl<R: StoreFiles + Clone + Drop> DirectoryStore<R> {
     /// }
     /// ```
     pub fn skipped(&self) -> &[Error]
-        ensures { result.now ≡ self.now.skipped.items }
+        ensures value { result.now ≡ self.now.skipped.items }
+        ensures objects { self.now.skipped.items ≡ [] → IfKnown (λ at. HasAllOf at
+            self.now.loose.which self.now.directory (⟦<DirectoryStore<R> as Store>⟧.view self.now))
+            (R.answers self.now.rt) }
     {
         &self.skipped
     }
@@ -333,16 +358,32 @@ impl<R: StoreFiles + Clone + Drop> DirectoryStore<R> {
     // Takes the place of itself, as the store is now. Under an error it has what it had.
     fn open_again(&mut self) -> Result<(), Error>
         ensures kind { self.new.directory.kind ≡ self.old.directory.kind }
+        ensures place { place_of self.new.directory ≡ place_of self.old.directory }
+        ensures answers { R.answers self.new.rt ≡ R.answers self.old.rt }
         ensures listed { self.new.loose.which ≡ self.old.loose.which }
+        ensures skipped { self.new.skipped_before.items ++ self.new.skipped.items ≡ []
+            → self.old.skipped_before.items ++ self.old.skipped.items ≡ [] }
         ensures indexes { IfErr result (λ _. self.new.indexes.items ≡ self.old.indexes.items) }
         ensures packs { IfErr result (λ _. self.new.packs.items ≡ self.old.packs.items) }
         ensures loose { IfErr result (λ _. self.new.loose ≡ self.old.loose) }
     {
-        let mut store = DirectoryStore::open(&self.rt, &self.directory, self.loose.which)?;
-        self.skipped_before.append(&mut self.skipped)?;
-        mem::swap(&mut store.skipped_before, &mut self.skipped_before);
-        *self = store;
+        self.skipped_before.reserve(self.skipped.len())?;
+        let store = DirectoryStore::open(&self.rt, &self.directory, self.loose.which)?;
+        let before = mem::replace(self, store);
+        self.skipped_before = before.into_skipped();
         Ok(())
+    }
+
+    // What was skipped, after what was skipped before, for which there is room.
+    fn into_skipped(self) -> Vec<Error>
+        requires { vec_len self.skipped_before + vec_len self.skipped
+            ≤ vec_capacity self.skipped_before }
+        ensures { result.items ≡ self.skipped_before.items ++ self.skipped.items }
+    {
+        let mut all = self.skipped_before;
+        let mut skipped = self.skipped;
+        let _ = all.append(&mut skipped);
+        all
     }
 }
 
@@ -391,10 +432,8 @@ fn is_store_settled(
 
 // A copy of an object directory that was found.
 fn copy_of(directory: &ObjectDirectory) -> Result<ObjectDirectory, AllocError>
-    ensures path { IfOk result (λ copy. string_bytes copy.path ≡ string_bytes directory.now.path) }
+    ensures place { IfOk result (λ copy. place_of copy ≡ place_of directory.now) }
     ensures kind { IfOk result (λ copy. copy.kind ≡ directory.now.kind) }
-    ensures alternates { IfOk result (λ copy. map string_bytes copy.alternates.items
-        ≡ map string_bytes directory.now.alternates.items) }
 {
     Ok(ObjectDirectory {
         path: directory.path.clone()?,
@@ -421,7 +460,7 @@ fn all_skipped(
 }
 
 /// What the files contain is known as far as the runtime answers it.
-impl<R: StoreFiles + Clone + Drop> Store for DirectoryStore<R> {
+impl<R: StoreFiles> Store for DirectoryStore<R> {
     type Source = R::Source;
 
     ghost use Rattle.directory_store.specs.Stores.{only_of};
@@ -465,12 +504,17 @@ impl<R: StoreFiles + Clone + Drop> Store for DirectoryStore<R> {
     }
 }
 
-impl<R: StoreFiles + Clone + Drop> Reopen for DirectoryStore<R> {
-    ghost use Rattle.std.specs.Prelude.{◌≡◌};
-    ghost use Rattle.directory_store.specs.Stores.{only_of};
+impl<R: StoreFiles> Reopen for DirectoryStore<R> {
+    ghost use Rattle.std.specs.Prelude.{◌≡◌, ◌++◌, []};
+    ghost use Rattle.repositories.specs.Answers.{IfKnown};
+    ghost use Rattle.directory_store.specs.Opened.{HasAllOf, place_of};
 
-    ghost may_have = { λ store view. (view.kind ≡ store.directory.kind)
-        × (view.listed ≡ only_of store.loose.which) };
+    ghost had = { λ first store view. (place_of store.directory ≡ place_of first.directory)
+        × (R.answers store.rt ≡ R.answers first.rt)
+        × (store.loose.which ≡ first.loose.which)
+        × (view.kind ≡ first.directory.kind)
+        × (store.skipped_before.items ++ store.skipped.items ≡ [] → IfKnown (λ at.
+        HasAllOf at first.loose.which first.directory view) (R.answers first.rt)) };
 
     fn reopen(&mut self) -> bool {
         self.failed = self.open_again().err();
@@ -478,7 +522,7 @@ impl<R: StoreFiles + Clone + Drop> Reopen for DirectoryStore<R> {
     }
 }
 
-impl<R: StoreFiles + Clone + Drop> StorePaths for DirectoryStore<R> {
+impl<R: StoreFiles> StorePaths for DirectoryStore<R> {
     ghost use Rattle.directory_store.specs.Stores.{paths_in_all};
 
     ghost pack_path = { λ store pack. slice_index_or (map pack_path_of store.packs.items) pack [] };

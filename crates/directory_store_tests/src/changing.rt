@@ -147,7 +147,11 @@ impl Directories for Changing<'_> {
 }
 
 impl<'a> StoreFiles for Changing<'a> {
+    ghost use Rattle.std.specs.Prelude.{refl};
+
     type Source = IndexFile<'a>;
+
+    ghost alike = { λ rt other cloned. refl };
 
     fn open_source(&self, path: &str, stays_open: bool, _: u64) -> io::Result<IndexFile<'a>> {
         self.found(path)?;

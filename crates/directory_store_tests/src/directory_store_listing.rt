@@ -155,12 +155,12 @@ fn directory_of(rt: &impl AllocGlobal, layouts: &Layouts) -> Result<ObjectDirect
 }
 
 // Whether a store has the object, loose or in a pack.
-fn has<R: StoreFiles + Clone + Drop>(store: &DirectoryStore<R>, id: &ObjectId) -> bool {
+fn has<R: StoreFiles>(store: &DirectoryStore<R>, id: &ObjectId) -> bool {
     store.loose().contains(id) || !store.indexes().is_empty()
 }
 
 // Whether a store that is opened as the directories change has the object.
-fn opens<R: StoreFiles + Clone + Drop>(
+fn opens<R: StoreFiles>(
     tree: &R,
     directory: &ObjectDirectory,
     calls: &Calls,
@@ -173,7 +173,7 @@ fn opens<R: StoreFiles + Clone + Drop>(
 }
 
 // The same for a store that was asked for other loose objects before, and is refreshed.
-fn refreshes<R: StoreFiles + Clone + Drop>(
+fn refreshes<R: StoreFiles>(
     tree: &R,
     directory: &ObjectDirectory,
     calls: &Calls,

@@ -79,25 +79,25 @@ module _ (Has : Kind → List ℕ → Type 0) (HasFault : Kind → Bool → List
 -- a look-up in a store whose pack indexes are sound fails only because a read fails, or because memory runs out
 no_first_fault : (Has : List ℕ → Type 0) (HasFault : Bool → List ℕ → LazyError → Type 0) (view : StoreView) (whole : List (List ℕ))
     (e : Error) → ((can_fail : Bool) (bytes : List ℕ) (why : LazyError) → IsPackIndex view.kind bytes → HasFault can_fail bytes why → lazy.IsReadOrMemory can_fail why)
-    → (h : Holds view whole) → All (IsPackIndex view.kind) h.indexes → IsFirstFault Has HasFault view e → IsIndexReadOrMemory view e
+    → (h : Holds view whole) → All (IsPackIndex view.kind) h.are_known.indexes → IsFirstFault Has HasFault view e → IsIndexReadOrMemory view e
 no_first_fault Has HasFault view whole (Memory error) no_fault h sound first = tt
 no_first_fault Has HasFault view whole e no_fault h sound first =
     let packs = view.packs in
     let at = first.0 in
     let pack = first.1 in
     let low : at < length packs = slice_get_within packs at pack first.2 in
-    let inside : at < length h.indexes = omega (arith, low, as_many packs h.indexes h.known) in
-    let known = known_at packs h.indexes h.known at pack low in (
+    let inside : at < length h.are_known.indexes = omega (arith, low, as_many packs h.are_known.indexes h.are_known.known) in
+    let known = known_at packs h.are_known.indexes h.are_known.known at pack low in (
       at,
       pack,
       first.2,
       first.4,
       first.5,
-      no_fault pack.can_fail (get_or h.indexes at []) first.4 (sound at [] inside)
-          (first.6 (get_or h.indexes at []) (ap (λ (p : LazyIndex). p.content) (sym (get_or_from_slice_get packs at pack pack first.2)) ∙ known)),
+      no_fault pack.can_fail (get_or h.are_known.indexes at []) first.4 (sound at [] inside)
+          (first.6 (get_or h.are_known.indexes at []) (ap (λ (p : LazyIndex). p.content) (sym (get_or_from_slice_get packs at pack pack first.2)) ∙ known)),
     )
 
-pub no_store_fault : (view : StoreView) (whole : List (List ℕ)) (byte : ℕ) (e : Error) → (h : Holds view whole) → All (IsPackIndex view.kind) h.indexes → IsStoreFault view byte e → IsIndexReadOrMemory view e
+pub no_store_fault : (view : StoreView) (whole : List (List ℕ)) (byte : ℕ) (e : Error) → (h : Holds view whole) → All (IsPackIndex view.kind) h.are_known.indexes → IsStoreFault view byte e → IsIndexReadOrMemory view e
 no_store_fault view whole byte e =
     no_first_fault (λ bytes. HasBucket view.kind bytes byte) (λ can_fail bytes why. IsBucketFault can_fail view.kind bytes byte why) view whole e
     (λ can_fail bytes. no_bucket_fault can_fail view.kind bytes byte)
@@ -107,7 +107,7 @@ no_location_fault : (can_fail : Bool) (kind : Kind) (bytes digits : List ℕ) (e
 no_location_fault can_fail kind bytes digits (NoOffset at) index fault = fault.2 (index.offsets.in_table at (omega (arith, fault.0.inside, fault.1.to, length-names_in kind bytes index.names.tables)))
 no_location_fault can_fail kind bytes digits e index fault = no_bucket_fault can_fail kind bytes (first_byte_of digits) e index fault
 
-pub no_locate_fault : (view : StoreView) (whole : List (List ℕ)) (digits : List ℕ) (e : Error) → (h : Holds view whole) → All (IsPackIndex view.kind) h.indexes → IsLocateFault view digits e → IsIndexReadOrMemory view e
+pub no_locate_fault : (view : StoreView) (whole : List (List ℕ)) (digits : List ℕ) (e : Error) → (h : Holds view whole) → All (IsPackIndex view.kind) h.are_known.indexes → IsLocateFault view digits e → IsIndexReadOrMemory view e
 no_locate_fault view whole digits e =
     no_first_fault (λ bytes. (offset : Option ℕ) × IsOffsetOf view.kind bytes digits offset) (λ can_fail bytes why. IsLocationFault can_fail view.kind bytes digits why) view whole e
     (λ can_fail bytes. no_location_fault can_fail view.kind bytes digits)

@@ -1,22 +1,17 @@
 -- Stores that are opened again.
-use Rattle.gix_hash.proofs.Std.{◌∙◌, inl, inr, refl, subst, sym}
-use Rattle.object_store.specs.Stores.{IsReopened, IsSeen, StoreView}
+use Rattle.gix_hash.proofs.Std.{◌∙◌, refl}
+use Rattle.object_store.specs.Stores.{IsReopened, StoreView}
 
--- a store that was not opened again has what it had
-pub not_reopened : (MayHave : StoreView → Type 0) (view : StoreView) → IsReopened MayHave MayHave view view
-not_reopened MayHave view = record { kind = refl; listed = refl; seen = inl refl; later = λ v may. may }
+module _ {S : Type 0} (had : S → S → StoreView → Type 0) (view : S → StoreView) where
+  -- a store that was not opened again has what it had
+  pub not_reopened : (store : S) → IsReopened had view store store
+  not_reopened store = record { kind = refl; listed = refl; before = λ first seen was. was; has = λ first was. was }
 
--- what was seen after a store was opened again was seen of the store
-pub seen_later : (MayHave MayHaveThen : StoreView → Type 0) (old new view : StoreView) → IsReopened MayHave MayHaveThen old new → IsSeen MayHaveThen new view
-    → IsSeen MayHave old view
-seen_later MayHave MayHaveThen old new view is (inl same) = subst (IsSeen MayHave old) (sym same) is.seen
-seen_later MayHave MayHaveThen old new view is (inr may) = inr (is.later view may)
-
--- a store that was opened again twice was opened again
-pub reopened_again : (A B C : StoreView → Type 0) (x y z : StoreView) → IsReopened A B x y → IsReopened B C y z → IsReopened A C x z
-reopened_again A B C x y z first then = record {
-  kind = then.kind ∙ first.kind;
-  listed = then.listed ∙ first.listed;
-  seen = seen_later A B x y z first then.seen;
-  later = λ v may. first.later v (then.later v may);
-}
+  -- a store that was opened again twice was opened again
+  pub reopened_again : (x y z : S) → IsReopened had view x y → IsReopened had view y z → IsReopened had view x z
+  reopened_again x y z once then = record {
+    kind = then.kind ∙ once.kind;
+    listed = then.listed ∙ once.listed;
+    before = λ first seen was. then.before first seen (once.before first seen was);
+    has = λ first was. then.has first (once.has first was);
+  }

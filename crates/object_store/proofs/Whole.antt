@@ -8,13 +8,13 @@ use Rattle.std.proofs.lemmas.Slice.Zip.{AllZip-long}
 use Rattle.pack_index.specs.Format.{names_in}
 use Rattle.pack_index.specs.Lazy.{LazyIndex}
 use Rattle.pack_index.proofs.Buckets.{counted_all}
-use Rattle.object_store.specs.Stores.{AreIdsRead, AreMatches, Holds, IsNameIn, StoreView}
+use Rattle.object_store.specs.Stores.{AreIdsRead, AreKnown, AreMatches, Holds, IsNameIn, StoreView, ids_in}
 use Rattle.object_store.proofs.Held.{as_many, filter-flat_map, known_at}
 use Rattle.object_store.proofs.Named.{begins_itself}
 use Rattle.object_store.proofs.PartNames.{AreCounted}
 use Rattle.object_store.proofs.Zipped.{zipped_at}
 
-module _ (view : StoreView) (whole : List (List ℕ)) (byte : ℕ) (read : List (List ℕ)) (h : Holds view whole) (r : AreIdsRead view byte read) where
+module _ (view : StoreView) (byte : ℕ) (read : List (List ℕ)) (h : AreKnown view) (r : AreIdsRead view byte read) where
   abbrev packed : List (List ℕ)
   packed = flat_map (names_in view.kind) h.indexes
 
@@ -43,45 +43,63 @@ module _ (view : StoreView) (whole : List (List ℕ)) (byte : ℕ) (read : List 
       ∙ ap (λ (front : List (List ℕ)). front ++ view.loose)
       (flat_map-map (λ (some : List (List ℕ)). some) counted h.indexes ∙ sym (filter-flat_map (has_first_byte byte) (names_in view.kind) h.indexes))
 
-  -- so only ids of the store were read, and all that have the first byte
-  pub read_had : (id : List ℕ) → Contains read id → Contains whole id
+  -- and of these with the digits, all that begin with them
+  pub read_matches : (digits : List ℕ) → 2 ≤ length digits → first_byte_of digits ≡ byte → matches digits read ≡ matches digits (ids_in view h)
+  read_matches digits long same =
+      let p : List ℕ → Bool = λ id. starts_with nat_eq id digits in
+      let front : matches digits (part_of byte packed) ≡ matches digits packed =
+      subst (λ b. matches digits (part_of b packed) ≡ matches digits packed) same (matches-part digits packed long) in
+      ap (matches digits) read_is ∙ filter-append p (part_of byte packed) view.loose ∙ ap (λ (ids : List (List ℕ)). ids ++ matches digits view.loose) front
+      ∙ sym (filter-append p packed view.loose)
+
+  -- only names and loose ids of the store were read, and all that have the first byte
+  pub read_had : (id : List ℕ) → Contains read id → Contains (ids_in view h) id
   read_had id has =
-      (h.all.members id).1 (elim (Contains-append_cases (part_of byte packed) view.loose id (subst (λ (ids : List (List ℕ)). Contains ids id) read_is has)) [
+      elim (Contains-append_cases (part_of byte packed) view.loose id (subst (λ (ids : List (List ℕ)). Contains ids id) read_is has)) [
         | inl packs ↦ Contains-append_left packed view.loose id (contains_had (has_first_byte byte) packed id packs)
         | inr loose ↦ Contains-append_right packed view.loose id loose
-      ])
+      ]
 
-  pub read_has : (id : List ℕ) → first_byte_of id ≡ byte → Contains whole id → Contains read id
+  pub read_has : (id : List ℕ) → first_byte_of id ≡ byte → Contains (ids_in view h) id → Contains read id
   read_has id same has =
-      subst (λ (ids : List (List ℕ)). Contains ids id) (sym read_is) (elim (Contains-append_cases packed view.loose id ((h.all.members id).0 has)) [
+      subst (λ (ids : List (List ℕ)). Contains ids id) (sym read_is) (elim (Contains-append_cases packed view.loose id has) [
         | inl packs ↦ Contains-append_left (part_of byte packed) view.loose id (contains_kept (has_first_byte byte) packed id packs (same_test (first_byte_of id) byte same))
         | inr loose ↦ Contains-append_right (part_of byte packed) view.loose id loose
       ])
+
+-- a name among ids is one among others, which have these, and no other ones with the first byte
+pub name_in : (byte : ℕ) (some all : List (List ℕ)) → ((id : List ℕ) → Contains some id → Contains all id)
+    → ((id : List ℕ) → first_byte_of id ≡ byte → Contains all id → Contains some id) → (fewest : ℕ) (id name : List ℕ) → 2 ≤ fewest → first_byte_of id ≡ byte
+    → IsNameIn fewest some id name → IsNameIn fewest all id name
+name_in byte some all had has fewest id name two same is = record {
+  has = had id is.has;
+  first = is.first;
+  long = is.long;
+  alone = λ other there begins.
+      let two' : 2 ≤ length name = omega (arith, two, is.long) in
+      let front : starts_with nat_eq id name ≡ true = subst (λ (n : List ℕ). starts_with nat_eq id n ≡ true) (sym is.first) (begins_itself id (length name)) in
+      is.alone other (has other (first_byte_of-begins other name two' begins ∙ sym (first_byte_of-begins id name two' front) ∙ same) there) begins;
+  least = λ n from to. let other = is.least n from to in (other.0, had other.0 other.1, other.2, other.3);
+}
+
+module _ (view : StoreView) (whole : List (List ℕ)) (byte : ℕ) (read : List (List ℕ)) (h : Holds view whole) (r : AreIdsRead view byte read) where
+  -- so only ids of the store were read, and all that have the first byte
+  pub whole_had : (id : List ℕ) → Contains read id → Contains whole id
+  whole_had id has = (h.all.members id).1 (read_had view byte read h.are_known r id has)
+
+  pub whole_has : (id : List ℕ) → first_byte_of id ≡ byte → Contains whole id → Contains read id
+  whole_has id same has = read_has view byte read h.are_known r id same ((h.all.members id).0 has)
 
   -- so what is found for digits with this first byte is what begins with them in the whole store
   pub whole_found : (digits : List ℕ) (found : List (List ℕ)) → 2 ≤ length digits → first_byte_of digits ≡ byte → IsIndexOf view.kind (matches digits read) found
       → found ≡ matches digits whole
   whole_found digits found long same index =
-      let p : List ℕ → Bool = λ id. starts_with nat_eq id digits in
-      let front : matches digits (part_of byte packed) ≡ matches digits packed =
-      subst (λ b. matches digits (part_of b packed) ≡ matches digits packed) same (matches-part digits packed long) in
-      let all : matches digits read ≡ matches digits (packed ++ view.loose) =
-      ap (matches digits) read_is ∙ filter-append p (part_of byte packed) view.loose ∙ ap (λ (ids : List (List ℕ)). ids ++ matches digits view.loose) front
-      ∙ sym (filter-append p packed view.loose) in
-      part_is view.kind p (packed ++ view.loose) whole found h.all (subst (λ (ids : List (List ℕ)). IsIndexOf view.kind ids found) all index)
+      part_is view.kind (λ id. starts_with nat_eq id digits) (ids_in view h.are_known) whole found h.all
+      (subst (λ (ids : List (List ℕ)). IsIndexOf view.kind ids found) (read_matches view byte read h.are_known r digits long same) index)
 
   -- and a name among the ids that were read is one in the store
   pub whole_name : (fewest : ℕ) (id name : List ℕ) → 2 ≤ fewest → first_byte_of id ≡ byte → IsNameIn fewest read id name → IsNameIn fewest whole id name
-  whole_name fewest id name two same is = record {
-    has = read_had id is.has;
-    first = is.first;
-    long = is.long;
-    alone = λ other has begins.
-        let two' : 2 ≤ length name = omega (arith, two, is.long) in
-        let front : starts_with nat_eq id name ≡ true = subst (λ (n : List ℕ). starts_with nat_eq id n ≡ true) (sym is.first) (begins_itself id (length name)) in
-        is.alone other (read_has other (first_byte_of-begins other name two' begins ∙ sym (first_byte_of-begins id name two' front) ∙ same) has) begins;
-    least = λ n from to. let other = is.least n from to in (other.0, read_had other.0 other.1, other.2, other.3);
-  }
+  whole_name fewest id name two same is = name_in byte read whole whole_had whole_has fewest id name two same is
 
 -- what is found begins with the digits, and was read
 pub found_begins : (view : StoreView) (digits : List ℕ) (ids : List ObjectId) → AreMatches view digits ids → All (λ id. starts_with nat_eq (id_digits id) digits ≡ true) ids

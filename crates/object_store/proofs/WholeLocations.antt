@@ -23,17 +23,17 @@ module _ (view : StoreView) (whole : List (List ℕ)) (id : List ℕ) (locations
   abbrev by_bytes : List ℕ → Option ℕ
   by_bytes bytes = offset_of view.kind bytes id
 
-  offsets_are : are.offsets ≡ map by_bytes h.indexes
+  offsets_are : are.offsets ≡ map by_bytes h.are_known.indexes
   offsets_are =
-      let many = as_many view.packs h.indexes h.known in
+      let many = as_many view.packs h.are_known.indexes h.are_known.known in
       let long : length are.offsets ≡ length view.packs = AllZip-long (IsOffsetAt view.kind id) view.packs are.offsets are.read in
-      ext_get_or None are.offsets (map by_bytes h.indexes) (omega (arith, long, many, length-map h.indexes by_bytes)) (λ k low.
+      ext_get_or None are.offsets (map by_bytes h.are_known.indexes) (omega (arith, long, many, length-map h.are_known.indexes by_bytes)) (λ k low.
       let p : LazyIndex = record { kind = view.kind; count = 0; content = None; path = []; can_fail = true } in
       let inside : k < length view.packs = omega (arith, low, long) in
-      let within : k < length h.indexes = omega (arith, inside, many) in
-      let bytes = get_or h.indexes k [] in
-      let offset = zipped_at (IsOffsetAt view.kind id) view.packs are.offsets are.read k p None inside bytes (known_at view.packs h.indexes h.known k p inside) in
-      offset_is view.kind bytes id (h.are_counted k [] within) are.small (get_or are.offsets k None) offset ∙ sym (get_or-map by_bytes h.indexes k [] None within))
+      let within : k < length h.are_known.indexes = omega (arith, inside, many) in
+      let bytes = get_or h.are_known.indexes k [] in
+      let offset = zipped_at (IsOffsetAt view.kind id) view.packs are.offsets are.read k p None inside bytes (known_at view.packs h.are_known.indexes h.are_known.known k p inside) in
+      offset_is view.kind bytes id (h.are_known.are_counted k [] within) are.small (get_or are.offsets k None) offset ∙ sym (get_or-map by_bytes h.are_known.indexes k [] None within))
 
-  pub whole_locations : locations ≡ locations_of view.kind id h.indexes view.loose
+  pub whole_locations : locations ≡ locations_of view.kind id h.are_known.indexes view.loose
   whole_locations = are.all ∙ ap (λ (offsets : List (Option ℕ)). in_packs 0 offsets ++ loose_at id view.loose) offsets_are

@@ -32,26 +32,30 @@ pub record StoreView : Type 0 where
 abbrev pub IsListed : StoreView → ℕ → Type 0
 IsListed view byte = (only : ℕ) → view.listed ≡ Some only → byte ≡ only
 
--- the view is what a store had as it was opened first or later
-abbrev pub IsSeen : (StoreView → Type 0) → StoreView → StoreView → Type 0
-IsSeen MayHave first view = (view ≡ first) ⊎ MayHave view
-
--- a store was opened again, or not: its kind stays the same, and so does the first byte for which loose objects are listed; and what it may have then, it might
--- have had before
-pub record IsReopened (MayHave MayHaveThen : StoreView → Type 0) (old new : StoreView) : Type 0 where
-  pub kind : new.kind ≡ old.kind
-  pub listed : new.listed ≡ old.listed
-  pub seen : IsSeen MayHave old new
-  pub later : (view : StoreView) → MayHaveThen view → MayHave view
+-- a store was opened again, or not: its kind stays the same, and so does the first byte for which loose objects are listed. What it had since it was `first`, it
+-- still had, and what it has, it had
+pub record IsReopened {S : Type 0} (had : S → S → StoreView → Type 0) (view : S → StoreView) (old new : S) : Type 0 where
+  pub kind : (view new).kind ≡ (view old).kind
+  pub listed : (view new).listed ≡ (view old).listed
+  pub before : (first : S) (seen : StoreView) → had first old seen → had first new seen
+  pub has : (first : S) → had first old (view old) → had first new (view new)
 
 -- What an object store holds. Each id is given by its digits.
 
--- the bytes of all pack indexes are known, their fan-out tables are right, and `whole` is the index of all their names and the loose ids
-pub record Holds (view : StoreView) (whole : List (List ℕ)) : Type 0 where
+-- the bytes of all pack indexes are known, and their fan-out tables are right
+pub record AreKnown (view : StoreView) : Type 0 where
   pub indexes : List (List ℕ)
   pub known : map (λ (pack : LazyIndex). pack.content) view.packs ≡ map Some indexes
   pub are_counted : All (HasCounts view.kind) indexes
-  pub all : IsIndexOf view.kind (flat_map (names_in view.kind) indexes ++ view.loose) whole
+
+-- all their names, and the loose ids
+abbrev pub ids_in : (view : StoreView) → AreKnown view → List (List ℕ)
+ids_in view are_known = flat_map (names_in view.kind) are_known.indexes ++ view.loose
+
+-- they are so, and `whole` is the index of all their names and the loose ids
+pub record Holds (view : StoreView) (whole : List (List ℕ)) : Type 0 where
+  pub are_known : AreKnown view
+  pub all : IsIndexOf view.kind (ids_in view are_known) whole
 
 -- the id is one of the ids, and the name is its shortest prefix of at least `fewest` digits with which no other one begins
 pub record IsNameIn (fewest : ℕ) (ids : List (List ℕ)) (id name : List ℕ) : Type 0 where

@@ -14,11 +14,11 @@ ghost use Rattle.object_store.specs.declared.parts.Location.TheVariants.{Packed,
 /// only if reads from the source of that pack index may fail.
 pub fn failures()
     ensures buckets { (view : StoreView) (whole : List (List ℕ)) (byte : ℕ) (error : StoreError)
-        → (h : Holds view whole) → All (IsPackIndex view.kind) h.indexes
+        → (h : Holds view whole) → All (IsPackIndex view.kind) h.are_known.indexes
         → IsStoreFault view byte error → IsIndexReadOrMemory view error }
     ensures locations { (view : StoreView) (whole : List (List ℕ)) (digits : List ℕ)
-        (error : StoreError) → (h : Holds view whole) → All (IsPackIndex view.kind) h.indexes
-        → IsLocateFault view digits error → IsIndexReadOrMemory view error }
+        (error : StoreError) → (h : Holds view whole)
+        → All (IsPackIndex view.kind) h.are_known.indexes → IsLocateFault view digits error → IsIndexReadOrMemory view error }
 {}
 
 /// If the fan-out tables of a store's pack indexes are right, then
@@ -55,5 +55,5 @@ pub fn whole()
     ensures locations { (view : StoreView) (whole : List (List ℕ)) (id : List ℕ)
         (locations : List Location) → (h : Holds view whole)
         → AreLocations view id locations
-        → locations ≡ locations_of view.kind id h.indexes view.loose }
+        → locations ≡ locations_of view.kind id h.are_known.indexes view.loose }
 {}

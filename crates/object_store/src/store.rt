@@ -116,15 +116,14 @@ pub trait Reopen: Store {
     ghost use Rattle.std.specs.Prelude.{◌≡◌, false};
     ghost use Rattle.object_store.specs.Stores.{IsReopened, StoreView};
 
-    /// What the store may have after it is opened again, once or more often.
-    ghost may_have: { Self → StoreView → Type 0 };
+    /// What a store has, or had since it was the first of the two, before it was opened again.
+    ghost had: { Self → Self → StoreView → Type 0 };
 
     /// Opens the store again, and returns whether that was possible; if it was not, the store has
     /// what it had. The kind stays the same. Loose objects are listed for all first bytes, or for
     /// the same one, as before.
     fn reopen(&mut self) -> bool
-        ensures reopened { IsReopened (may_have self.old) (may_have self.new) (Self.view self.old)
-            (Self.view self.new) }
+        ensures reopened { IsReopened had Self.view self.old self.new }
         ensures failed { result ≡ false → Self.view self.new ≡ Self.view self.old };
 }
 

@@ -1,11 +1,14 @@
 -- What contracts say of the answers of a store.
 use Rattle.std.specs.Prelude.{ℕ, zero, suc, max, ◌≡◌, ◌≢◌, ◌++◌, Bool, List, [], Option, if◌then◌else◌}
-use Rattle.object_store.specs.Stores.{IsReopened, IsSeen, StoreView}
+use Rattle.object_store.specs.Stores.{StoreView}
 use Rattle.packtool.specs.WholeLines.{AreWhole}
 use Rattle.packtool.specs.declared.arguments.Question.{Question}
 use Rattle.packtool.specs.declared.arguments.Question.TheVariants.{Find, Locate, Names}
-use Rattle.packtool_commands.specs.Stores.{HasAnsweredMatches, HasLocatedEach, HasNamedBelow, HasNamedEach}
-use Rattle.packtool_commands.specs.declared.printing.Answers.{Answers}
+use Rattle.packtool_commands.specs.Stores.{HasAnsweredMatches, HasLocatedEach, HasNamedEach}
+use Rattle.packtool_commands.specs.declared.printing.Answers.{Answers as AnswersAsked}
+use Rattle.repositories.specs.Answers.{Answers}
+use Rattle.repositories.specs.declared.finding.ObjectDirectory.{ObjectDirectory}
+use Rattle.directory_store.specs.Opened.{place_of}
 use Rattle.packtool_commands.specs.declared.printing.NoAnswer.{NoAnswer}
 use Rattle.directory_store.specs.declared.error.Error.{Error}
 
@@ -14,7 +17,7 @@ abbrev pub IsStatus : List Error → Bool → ℕ → Type 0
 IsStatus skipped any status = (skipped ≡ [] → status ≡ (if any then 0 else 1)) × (skipped ≢ [] → status ≡ 2)
 
 -- what a question finds for lines was written, and `why` is why the first line that has no answer has none; A is the type of the allocator of what was found
-abbrev pub HasAnsweredLines : (A : Type 0) → Question → Answers → ℕ → (ℕ → List ℕ) → (List ℕ → List (List ℕ)) → StoreView → List (List ℕ)
+abbrev pub HasAnsweredLines : (A : Type 0) → Question → AnswersAsked → ℕ → (ℕ → List ℕ) → (List ℕ → List (List ℕ)) → StoreView → List (List ℕ)
     → Option NoAnswer → Option (List ℕ) → Option (List ℕ) → Type 0
 HasAnsweredLines A Find answers least pack_path loose_paths view lines why old new = HasAnsweredMatches A answers view lines why old new
 HasAnsweredLines A Locate answers least pack_path loose_paths view lines why old new = HasLocatedEach A answers pack_path loose_paths view lines why old new
@@ -35,9 +38,6 @@ abbrev pub checked_of : {P : Type 0} → Question → List P → List P
 checked_of Locate prefixes = prefixes
 checked_of _ prefixes = []
 
--- the names of all ids of a store were written, of each first byte as the store was at one time since it was opened, and whether there is one is this
-pub record HasNamedAll {S : Type 0} (may_have : S → StoreView → Type 0) (view : S → StoreView) (least : ℕ) (store : S) (any : Bool) (old new : Option (List ℕ)) :
-    Type 0 where
-  pub opened : S
-  pub reopened : IsReopened (may_have opened) (may_have store) (view opened) (view store)
-  pub named : HasNamedBelow 256 least (IsSeen (may_have opened) (view opened)) any old new
+-- a store is that of an object directory, by what directories and files answer
+abbrev pub IsStoreOf : ObjectDirectory → Option Answers → ObjectDirectory → Option Answers → Type 0
+IsStoreOf directory answers own known = (own.kind ≡ directory.kind) × (place_of own ≡ place_of directory) × (known ≡ answers)

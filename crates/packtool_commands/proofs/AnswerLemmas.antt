@@ -55,7 +55,7 @@ abbrev pub mark : Line → List ℕ × Bool
 mark line = (line.text.now, line.is_prefix)
 
 -- the prefixes among lines have 2 digits or more, and the kind
-abbrev IsLong : Kind → KindDigits → Type 0
+abbrev pub IsLong : Kind → KindDigits → Type 0
 IsLong kind prefix = (2 ≤ length prefix.digits) × (prefix.kind ≡ kind)
 
 not_below : (n : ℕ) → nat_lt n 2 ≡ false → 2 ≤ n
@@ -70,19 +70,19 @@ long_of kind true o = All-nil (IsLong kind)
 long_of kind false None = All-nil (IsLong kind)
 long_of kind false (Some ds) = long_if kind ds (nat_lt (length ds) 2) refl
 
-are_long : (kind : Kind) (lines : List (List ℕ)) → All (IsLong kind) (prefixes_of kind lines)
+pub are_long : (kind : Kind) (lines : List (List ℕ)) → All (IsLong kind) (prefixes_of kind lines)
 are_long kind [] = All-nil (IsLong kind)
 are_long kind (line ∷ lines) =
     All-append (IsLong kind) (option_to_list (prefix_of kind line)) (prefixes_of kind lines)
     (long_of kind (nat_lt (hex_len_of kind) (length line)) (digits_read hex_letter line)) (are_long kind lines)
 
 -- the prefixes that were read of a store's kind can be looked up, also after it was opened again
-pub can_look_up : {MayHave MayHaveThen : StoreView → Type 0} {old new : StoreView} (kind : Kind) (lines : List (List ℕ)) {read prefixes : List KindDigits}
-    → IsReopened MayHave MayHaveThen old new → kind ≡ old.kind → AreListed old read → prefixes ≡ read → prefixes ≡ prefixes_of kind lines
-    → All (CanLookUp new) prefixes
-can_look_up {old = old} kind lines is same listed all are k prefix low =
+pub can_look_up : {S : Type 0} {had : S → S → StoreView → Type 0} {view : S → StoreView} {old new : S} (kind : Kind) (lines : List (List ℕ))
+    {read prefixes : List KindDigits} → IsReopened had view old new → kind ≡ (view old).kind → AreListed (view old) read → prefixes ≡ read
+    → prefixes ≡ prefixes_of kind lines → All (CanLookUp (view new)) prefixes
+can_look_up {view = view} {old = old} kind lines is same listed all are k prefix low =
     let long = subst (All (IsLong kind)) (sym are) (are_long kind lines) k prefix low in
-    let known = subst (AreListed old) (sym all) listed k prefix low in
+    let known = subst (AreListed (view old)) (sym all) listed k prefix low in
     record {
       enough = long.0;
       kind = long.1 ∙ same ∙ sym is.kind;

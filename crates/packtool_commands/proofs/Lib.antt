@@ -1,8 +1,9 @@
-mod AnswerLemmas
+pub mod AnswerLemmas
 mod FirstTwo
 mod LineLemmas
 mod KeptLines
 mod ShownLemmas
 mod NamedLemmas
 mod OnePrefix
+pub mod EachLine
 mod EscapeLemmas

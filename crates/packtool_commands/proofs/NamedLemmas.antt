@@ -30,6 +30,18 @@ below_sound (suc n) least Sees named are k low = elim (cases_lt k n) [
   | inr from ↦ let same : n ≡ k = omega (arith, low, from) in (are.2, are.4, subst (HaveBuckets are.2) same (have_read are.2 n are.5.read are.5.ids_read))
 ]
 
+-- what was seen of a store once was seen of it later
+below_seen : (n least : ℕ) (Sees SeesThen : StoreView → Type 0) (named : List NamedId) → ((view : StoreView) → Sees view → SeesThen view)
+    → AreNamedBelow n least Sees named → AreNamedBelow n least SeesThen named
+unfolding AreNamedBelow
+below_seen zero least Sees SeesThen named later are = are
+below_seen (suc n) least Sees SeesThen named later are = (are.0, are.1, are.2, below_seen n least Sees SeesThen are.0 later are.3, later are.2 are.4, are.5, are.6)
+
+pub named_seen : (n least : ℕ) (Sees SeesThen : StoreView → Type 0) (any : Bool) (old new : Option (List ℕ)) → ((view : StoreView) → Sees view → SeesThen view)
+    → HasNamedBelow n least Sees any old new → HasNamedBelow n least SeesThen any old new
+named_seen n least Sees SeesThen any old new later has =
+    record { named = has.named; are_named = below_seen n least Sees SeesThen has.named later has.are_named; found = has.found; written = has.written }
+
 some_of : {X : Type 0} (xs ys : List X) → (xs ++ ys ≢ []) ↔ ((xs ≢ []) ⊎ (ys ≢ []))
 some_of [] ys = (λ some. inr some, λ some. elim some [ inl none ↦ absurd (none refl) | inr some ↦ some ])
 some_of (x ∷ xs) ys = (λ some. inl (λ none. cc), λ some none. cc)

@@ -1,6 +1,7 @@
 -- What is printed of the ids of a store, and why that fails.
-use Rattle.std.specs.Prelude.{[], ℕ, ◌++◌, ◌<◌, ◌↔◌, ◌∷◌, ◌≡◌, ◌≢◌, All, Bool, IsTrue, List, None, Option, Some, Vec, codes, decimal, false, flat_map, fold, if◌then◌else◌, length, map, nat_lt, string_bytes, suc, true, zero, is_some, option_map, option_to_list}
+use Rattle.std.specs.Prelude.{[], ℕ, ◌++◌, ◌<◌, ◌↔◌, ◌∷◌, ◌≡◌, ◌≢◌, All, Bool, IsTrue, List, MatchOption, None, Option, Some, Vec, codes, decimal, false, flat_map, fold, if◌then◌else◌, length, map, nat_lt, string_bytes, suc, true, zero, is_some, option_map, option_to_list}
 use Rattle.std.specs.Io.KnownBytes.{Appends}
+use Rattle.std.specs.List.{AllZip}
 use Rattle.std.specs.Option.{option_map_or, option_or}
 use Rattle.id_lookup.specs.Words.{Kind, KindDigits, ObjectId, digits_read, first_byte_of, hex_len_of, hex_letter, id_digits, kind_digits, spelling}
 use Rattle.streams.specs.Streams.{AppendsAtMost, AppendsPart}
@@ -129,6 +130,17 @@ pub record HasAnsweredByPart {X : Type 0} (AreFound : List X → Type 0) (text :
   pub results : List X
   pub are_found : AreFound results
   pub written : AppendsPart old new (answers_by text kind lines results)
+
+-- what is written for a line: if it is a prefix, the text of something that is found for it
+abbrev pub IsTextOf : {X : Type 0} → (List ℕ → X → Type 0) → (List ℕ → X → List ℕ) → Kind → List ℕ → List ℕ → Type 0
+IsTextOf {X} Finds text kind line written =
+    MatchOption (prefix_of kind line) (written ≡ line_with line (codes "bad")) (λ prefix. (x : X) × Finds prefix.digits x × (written ≡ text line x))
+
+-- a text was written for each line
+pub record HasAnsweredEach (IsText : List ℕ → List ℕ → Type 0) (lines : List (List ℕ)) (old new : Option (List ℕ)) : Type 0 where
+  pub texts : List (List ℕ)
+  pub each : AllZip IsText lines texts
+  pub written : Appends old new (flat_map (λ (one : List ℕ). one) texts)
 
 -- the ids that begin with each prefix were found and printed, and `why` is why the first line that has no answer has none; A is the type of the allocator of
 -- what was found

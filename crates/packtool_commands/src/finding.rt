@@ -28,9 +28,9 @@ use streams::{Sink, WriteFailed, write_id};
 /// [`Answers::Bare`] and [`Answers::BareOne`] write nothing there.
 ///
 /// The ids of a pack index with a first byte are read once. If they were found in order before,
-/// only some of them are read, for each line. If one id is asked for, only the first two of a
-/// prefix are held. Nothing is written before all ids are found; if a pack index is gone by then,
-/// the store is opened again. If the ids are more than `most`, and there are several prefixes, then
+/// only some of them are read, for each line. If one id is asked for, the first two of a prefix are
+/// enough. Nothing is written before all ids are found; if a pack index is gone by then, the store
+/// is opened again. If the ids are more than `most`, and there are several prefixes, then
 /// nothing is written, and [`StoreError::TooMany`] is returned.
 /// [`StoreError::Output`] is returned if and only if a write fails, after a proper beginning of the
 /// text. The sink must not have failed before.
@@ -51,8 +51,7 @@ pub fn find_each<S: Reopen, A: Allocator + Copy, W: Sink>(
     requires kind { lines.now.kind ≡ (S.view store.old).kind }
     requires listed { AreListed (S.view store.old) lines.now.prefixes.items }
     requires output { W.has_failed out.old ≡ false }
-    ensures reopened { IsReopened (S.may_have store.old) (S.may_have store.new)
-        (S.view store.old) (S.view store.new) }
+    ensures reopened { IsReopened S.had S.view store.old store.new }
     ensures found { IfOk result (λ why. HasAnsweredMatches A answers (S.view store.new)
         (lines_of lines.now.text.now) why (W.taken out.old) (W.taken out.new)) }
     ensures refused { IfErr result (IsFaultOf (IsFaultOfOne (S.view store.new)

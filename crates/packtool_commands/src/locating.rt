@@ -65,8 +65,7 @@ pub fn locate_each<S: Reopen + StorePaths, A: Allocator + Copy, W: Sink>(
     requires kind { lines.now.kind ≡ (S.view store.old).kind }
     requires listed { AreListed (S.view store.old) lines.now.prefixes.items }
     requires output { W.has_failed out.old ≡ false }
-    ensures reopened { IsReopened (S.may_have store.old) (S.may_have store.new)
-        (S.view store.old) (S.view store.new) }
+    ensures reopened { IsReopened S.had S.view store.old store.new }
     ensures located { IfOk result (λ why. HasLocatedEach A answers (S.pack_path store.new)
         (S.loose_paths store.new) (S.view store.new) (lines_of lines.now.text.now) why
         (W.taken out.old) (W.taken out.new)) }
@@ -100,8 +99,7 @@ fn locate_lines<S: Reopen + StorePaths, A: Allocator + Copy>(
 ) -> Result<Vec<Vec<LocatedId<A>, A>, A>, StoreError>
     requires kind { lines.now.kind ≡ (S.view store.old).kind }
     requires listed { AreListed (S.view store.old) lines.now.prefixes.items }
-    ensures reopened { IsReopened (S.may_have store.old) (S.may_have store.new)
-        (S.view store.old) (S.view store.new) }
+    ensures reopened { IsReopened S.had S.view store.old store.new }
     ensures located { IfOk result (λ located. AreLocatedOfEach limit (S.view store.new)
         (S.loose_paths store.new)
         (prefixes_of (S.view store.new).kind (lines_of lines.now.text.now)) located.items) }

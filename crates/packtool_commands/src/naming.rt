@@ -3,7 +3,7 @@
 ghost use Rattle.std.specs.Prelude.{◌≡◌, ◌≢◌, ◌↔◌, ◌⊎◌, ◌<◌, ◌≤◌, ◌∷◌, ◌++◌, ℕ, [], false, true, flat_map, length, All, IfErr, IfOk, IsErrOf, IsTrue};
 ghost use Rattle.id_lookup.specs.Words.{hex_len_of, hex_letter, spelling};
 ghost use Rattle.object_store.specs.Several.{AreNamed, IsAbbreviated, id_count};
-ghost use Rattle.object_store.specs.Stores.{HaveMore, IsFaultOfOne, IsListed, IsReopened, IsSeen, IsStoreFault};
+ghost use Rattle.object_store.specs.Stores.{HaveMore, IsFaultOfOne, IsListed, IsReopened, IsStoreFault};
 ghost use Rattle.packtool_commands.specs.Stores.{AreListed, HasNamedAtMost, HasNamedBelow, HasNamedEach, HasNamedEachPart, IsFaultOf, IsWalkFault, abbreviation_text, name_line, no_name};
 ghost use Rattle.packtool_commands.specs.declared.error.StoreError.{StoreError};
 ghost use Rattle.streams.specs.Streams.{Wrote, lines_of};
@@ -43,21 +43,20 @@ pub fn names<S: Reopen, A: Allocator + Copy, W: Sink>(
     least: usize,
     out: &mut W,
 ) -> Result<bool, StoreError>
+    requires has { S.had store.old store.old (S.view store.old) }
     requires listed { (byte : ℕ) → IsListed (S.view store.old) byte }
     requires enough { 4 ≤ least }
     requires fits { least ≤ hex_len_of (S.view store.old).kind }
     requires output { W.has_failed out.old ≡ false }
-    ensures reopened { IsReopened (S.may_have store.old) (S.may_have store.new)
-        (S.view store.old) (S.view store.new) }
+    ensures reopened { IsReopened S.had S.view store.old store.new }
     ensures named { IfOk result (λ any. HasNamedBelow 256 least
-        (IsSeen (S.may_have store.old) (S.view store.old)) any
-        (W.taken out.old) (W.taken out.new)) }
+        (S.had store.old store.new) any (W.taken out.old) (W.taken out.new)) }
     ensures refused { IfErr result (IsFaultOf (IsWalkFault
-        (IsSeen (S.may_have store.old) (S.view store.old)) (S.view store.new))) }
+        (S.had store.old store.new) (S.view store.new))) }
     ensures few { IfErr result (λ e. e ≢ StoreError.TooMany) }
     ensures output { IsErrOf result StoreError.Output ↔ (W.has_failed out.new ≡ true) }
     ensures part { IfErr result (λ _. HasNamedAtMost least
-        (IsSeen (S.may_have store.old) (S.view store.old)) (W.taken out.old) (W.taken out.new)) }
+        (S.had store.old store.new) (W.taken out.old) (W.taken out.new)) }
 {
     let mut any = false;
     for byte in 0..BYTES {
@@ -78,8 +77,7 @@ fn names_of<S: Reopen, A: Allocator + Copy>(
     requires listed { IsListed (S.view store.old) byte }
     requires enough { 4 ≤ least }
     requires fits { least ≤ hex_len_of (S.view store.old).kind }
-    ensures reopened { IsReopened (S.may_have store.old) (S.may_have store.new)
-        (S.view store.old) (S.view store.new) }
+    ensures reopened { IsReopened S.had S.view store.old store.new }
     ensures named { IfOk result (λ named. AreNamed least (S.view store.new) byte named.items) }
     ensures err { IfErr result (IsStoreFault (S.view store.new) byte) }
 {
@@ -160,8 +158,7 @@ pub fn name_each<S: Reopen, A: Allocator + Copy, W: Sink>(
     requires enough { 4 ≤ least }
     requires fits { least ≤ hex_len_of (S.view store.old).kind }
     requires output { W.has_failed out.old ≡ false }
-    ensures reopened { IsReopened (S.may_have store.old) (S.may_have store.new)
-        (S.view store.old) (S.view store.new) }
+    ensures reopened { IsReopened S.had S.view store.old store.new }
     ensures named { IfOk result (λ why. HasNamedEach least (S.view store.new)
         (lines_of lines.now.text.now) why (W.taken out.old) (W.taken out.new)) }
     ensures refused { IfErr result (IsFaultOf (IsFaultOfOne (S.view store.new)

@@ -24,12 +24,11 @@ pub(crate) fn look_up_again<S: Reopen, T: Drop, F: Fn(&mut S) -> Result<T, Error
     store: &mut S,
     look_up: F,
 ) -> Result<T, Error>
-    requires can { (seen : _) → IsReopened (S.may_have store.old) (S.may_have seen.now)
-        (S.view store.old) (S.view seen.now) → F.pre look_up seen }
+    requires can { (seen : _) → IsReopened S.had S.view store.old seen.now
+        → F.pre look_up seen }
     requires same { (seen left : _) (looked : _) → F.post look_up seen looked left
         → left.now ≡ seen.now }
-    ensures reopened { IsReopened (S.may_have store.old) (S.may_have store.new)
-        (S.view store.old) (S.view store.new) }
+    ensures reopened { IsReopened S.had S.view store.old store.new }
     ensures found { FnOnceReturnsAtMut F.FnOnce look_up store.new result store.new }
 {
     for _try in 1..MAX_TRIES {
@@ -57,8 +56,7 @@ pub(crate) fn look_up_lines<S: Reopen, A: Allocator + Copy, L: LookUp<S, A>>(
     requires listed { AreListed (S.view store.old) lines.now.prefixes.items }
     requires fits { (seen : StoreView) → seen.kind ≡ (S.view store.old).kind
         → L.fits look_up.now seen }
-    ensures reopened { IsReopened (S.may_have store.old) (S.may_have store.new)
-        (S.view store.old) (S.view store.new) }
+    ensures reopened { IsReopened S.had S.view store.old store.new }
     ensures found { IfOk result (λ found. AllZip
         (λ (prefix : KindDigits) one. L.finds look_up.now store.new prefix.digits one)
         (prefixes_of (S.view store.new).kind (lines_of lines.now.text.now)) found.items) }

@@ -210,7 +210,7 @@ impl<'a> Store for Memory<'a> {
 }
 
 impl Reopen for Memory<'_> {
-    ghost may_have = { λ _ _. Unit {0} };
+    ghost had = { λ _ _ _. Unit {0} };
 
     fn reopen(&mut self) -> bool {
         self.reads.reopen()

@@ -1,10 +1,15 @@
-use Rattle.gix_hash.proofs.Std.{refl}
+use Rattle.directory_store.proofs.AllBytes.{found_of_all, named_of_all}
+use Rattle.directory_store.proofs.Wholes.{found_members}
 use Rattle.directory_store.proofs.laws.opened.Goals as goal
 
 pub returns-clause-found : goal.returns-clause-found
-returns-clause-found c = λ at which directories objects view prefix ids has sound are long found.
-    c.whole.ensures.ids view objects _ found.read prefix _ (has.holds objects sound are) found.ids_read long refl found.index
+returns-clause-found c = λ at which directories objects view prefix ids has counted are listed long found.
+    found_of_all at which directories objects view has counted are prefix found.read _ listed long found.ids_read found.index
+
+pub returns-clause-members : goal.returns-clause-members
+returns-clause-members c = λ at which directories view prefix ids has counted long found digits.
+    found_members at which directories view prefix found.read _ has counted long found.ids_read found.index digits
 
 pub returns-clause-named : goal.returns-clause-named
-returns-clause-named c = λ at which directories objects view read least id name has sound are of_id two is.
-    c.whole.ensures.names view objects read least id name (has.holds objects sound are) of_id two is
+returns-clause-named c = λ at which directories objects view read least id name has counted are listed of_id two is.
+    named_of_all at which directories objects view has counted are read least id name listed of_id two is

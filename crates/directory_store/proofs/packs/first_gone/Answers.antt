@@ -1,7 +1,7 @@
 use Rattle.gix_hash.proofs.Std.{◌≡◌, ℕ, ◌<◌, ◌∙◌, List, All, ap, arith, get_or, length, map, subst, sym, length-map, All-cons, Contains-get_or, bytes_eq-Decides, Contains}
 use Rattle.std.proofs.Math.ListN.{get_or-map}
 use Rattle.directory_store.specs.Stores.{IsListedPack, index_path}
-use Rattle.directory_store.specs.declared.packs.PackPaths.{PackPaths}
+use Rattle.directory_store.specs.declared.pack_paths.PackPaths.{PackPaths}
 use Rattle.directory_store.proofs.packs.first_gone.Goals.{then-eq, else-eq}
 use Rattle.directory_store.proofs.packs.first_gone.Goals as goal
 

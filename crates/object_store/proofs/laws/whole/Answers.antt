@@ -1,10 +1,10 @@
-use Rattle.object_store.proofs.Whole.{read_had, read_has, whole_found, whole_name}
+use Rattle.object_store.proofs.Whole.{whole_found, whole_had, whole_has, whole_name}
 use Rattle.object_store.proofs.WholeLocations.{whole_locations}
 use Rattle.gix_hash.proofs.Std.{refl}
 use Rattle.object_store.proofs.laws.whole.Goals as goal
 
 pub returns-clause-read : goal.returns-clause-read
-returns-clause-read c = λ view whole byte read id h r same. (read_had view whole byte read h r id, read_has view whole byte read h r id same)
+returns-clause-read c = λ view whole byte read id h r same. (whole_had view whole byte read h r id, whole_has view whole byte read h r id same)
 
 pub returns-clause-ids : goal.returns-clause-ids
 returns-clause-ids c = λ view whole byte read digits found h r long same index. whole_found view whole byte read h r digits found long same index

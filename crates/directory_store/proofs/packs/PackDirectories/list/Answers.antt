@@ -8,7 +8,6 @@ use Rattle.directory_store.proofs.packs.PackDirectories.list.Goals as goal
 pub loop-directory-preserved : goal.loop-directory-preserved
 loop-directory-preserved g c = record {
   all = c.push_indexes.ensures.all ∙ c.loop-directory.invariant.all;
-  packs = c.in_ok-push_indexes.ensures.packs c.loop-directory.invariant.packs;
   indexes = λ at known.
       let directories = c.args.self.now.paths.items in
       let index = c.loop-directory.directory-index in

@@ -10,6 +10,5 @@ pub returns-clause-packs : goal.returns-clause-packs
 returns-clause-packs g c = λ at known. record {
   indexes = c.in_ok-listed.listed.paths.items;
   listed = c.in_ok-listed.ensures.indexes at known;
-  own = c.in_ok-listed.ensures.packs;
   all = c.in_ok-listed-2.ensures.packs at known;
 }
