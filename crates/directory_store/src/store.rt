@@ -89,9 +89,9 @@ impl<R: StoreFiles> DirectoryStore<R> {
         ensures listed { IfOk result (λ store. store.loose.which ≡ loose) }
         ensures place { IfOk result (λ store. place_of store.directory ≡ place_of directory.now) }
         ensures answers { IfOk result (λ store. R.answers store.rt ≡ R.answers rt.now) }
-        ensures objects { IfOk result (λ store. store.skipped.items ≡ [] → IfKnown (λ at. HasAllOf at
-            store.loose.which store.directory (⟦<DirectoryStore<R> as Store>⟧.view store))
-            (R.answers store.rt)) }
+        ensures objects { IfOk result (λ store. store.skipped.items ≡ [] → IfKnown (λ at.
+            HasAllOf at store.loose.which store.directory
+            (⟦<DirectoryStore<R> as Store>⟧.view store)) (R.answers store.rt)) }
     {
         DirectoryStore::open_at(rt, directory, loose, None)
     }
@@ -176,8 +176,8 @@ impl<R: StoreFiles> DirectoryStore<R> {
     /// What was changed less than 20 ms before it was read is read again, and so is what
     /// [`DirectoryStore::open`] has read, and a store of which something is skipped: see
     /// [`FileState::is_settled`](repositories::FileState::is_settled). The errors are those of
-    /// `open`, after which no pack index may be left; [`DirectoryStore::skipped`] then says that the
-    /// store has changed, and the next call reads it again.
+    /// `open`, after which no pack index may be left. Then [`DirectoryStore::skipped`] says that
+    /// the store has changed, and the next call reads it again.
     ///
     /// ```
     /// let directory = find_objects(rt)?;

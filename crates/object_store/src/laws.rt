@@ -18,7 +18,8 @@ pub fn failures()
         → IsStoreFault view byte error → IsIndexReadOrMemory view error }
     ensures locations { (view : StoreView) (whole : List (List ℕ)) (digits : List ℕ)
         (error : StoreError) → (h : Holds view whole)
-        → All (IsPackIndex view.kind) h.are_known.indexes → IsLocateFault view digits error → IsIndexReadOrMemory view error }
+        → All (IsPackIndex view.kind) h.are_known.indexes
+        → IsLocateFault view digits error → IsIndexReadOrMemory view error }
 {}
 
 /// If the fan-out tables of a store's pack indexes are right, then

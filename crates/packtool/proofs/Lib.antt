@@ -1,2 +1,2 @@
-pub mod LineLemmas
-pub mod StatusLemmas
+pub mod Done
+pub mod SomeBytes

@@ -4,10 +4,10 @@ use Rattle.clap.specs.Matches.{one_text}
 use Rattle.clap.specs.declared.parser.matches.Found.{Found}
 use Rattle.packtool.specs.declared.arguments.Action.{Action}
 use Rattle.packtool.specs.declared.arguments.Action.TheVariants as actions
-use Rattle.packtool.specs.declared.arguments.Ask.{Ask}
-use Rattle.packtool.specs.declared.arguments.Ask.TheVariants.{All, Lines, Prefix}
+use Rattle.store_questions.specs.declared.request.Ask.{Ask}
+use Rattle.store_questions.specs.declared.request.Ask.TheVariants.{All, Lines, Prefix}
 use Rattle.packtool.specs.declared.arguments.FileCommand.TheVariants.{Check, Show}
-use Rattle.packtool.specs.declared.arguments.Question.TheVariants.{Find, Locate, Names}
+use Rattle.store_questions.specs.declared.request.Question.TheVariants.{Find, Locate, Names}
 use Rattle.packtool.specs.declared.arguments.Request.{Request}
 use Rattle.packtool.specs.declared.arguments.Request.TheVariants as requests
 use Rattle.packtool_commands.specs.declared.printing.Answers.TheVariants as answers_of

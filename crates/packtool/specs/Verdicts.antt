@@ -1,7 +1,8 @@
 -- What contracts say of checked files.
-use Rattle.std.specs.Prelude.{ℕ, ◌≡◌, ◌≢◌, ◌↔◌, ◌++◌, ◌∷◌, [], Bool, List, Option, codes, false, max}
+use Rattle.std.specs.Prelude.{ℕ, ◌≡◌, ◌≢◌, ◌↔◌, ◌++◌, ◌∷◌, [], Bool, List, None, Option, Some, codes, false, max}
 use Rattle.std.specs.Io.KnownBytes.{Appends}
 use Rattle.gix_hash.specs.declared.Kind.{Kind}
+use Rattle.gix_hash.specs.declared.Kind.TheVariants.{Sha1, Sha256}
 use Rattle.pack_index.specs.Format.{IndexFile}
 use Rattle.packtool.specs.declared.arguments.FileCommand.{FileCommand}
 use Rattle.packtool.specs.declared.arguments.FileCommand.TheVariants.{Check, Show}
@@ -9,6 +10,8 @@ use Rattle.packtool.specs.declared.files.Verdict.{Verdict}
 use Rattle.packtool.specs.declared.files.Verdict.TheVariants.{Alone, Ends, Faulty, Paired, Skipped}
 use Rattle.packtool_commands.specs.Files.{IsOpenedAs, IsRefusalAs, file_line, pairing_verdict, verdict}
 use Rattle.packtool_commands.specs.declared.pairing.Pairing.TheVariants.{Same}
+use Rattle.streams.specs.Streams.{HasEnding, HasEndingOfEither}
+use Rattle.streams.specs.declared.checking.Ending.{Ending}
 use Rattle.streams.specs.declared.checking.Ending.TheVariants.{Sealed}
 
 -- a file passed its check: it ends with its digest, or is a pack index that belongs to the pack beside it, if there is one; or it has no digest
@@ -26,6 +29,17 @@ IsVerdictOn kind bytes (Ends ending) = ⊥
 IsVerdictOn kind bytes (Faulty error) = IsRefusalAs kind bytes error
 IsVerdictOn kind bytes Alone = (file : IndexFile) × IsOpenedAs kind bytes file
 IsVerdictOn kind bytes (Paired pairing) = (file : IndexFile) × IsOpenedAs kind bytes file
+
+-- how bytes end: for the kind that is given or, if none is, for the kind whose digest they end with
+abbrev pub IsEnding : Option Kind → List ℕ → Ending → Type 0
+IsEnding None bytes ending = HasEndingOfEither Sha1 Sha256 bytes ending
+IsEnding (Some kind) bytes ending = HasEnding kind bytes ending
+
+-- a verdict is on some bytes, unless it says that the file has no digest
+abbrev pub IsVerdictOnSome : Option Kind → Verdict → Type 0
+IsVerdictOnSome kind Skipped = Unit {0}
+IsVerdictOnSome kind (Ends ending) = (bytes : List ℕ) × (read : Option Kind) × IsEnding read bytes ending
+IsVerdictOnSome kind said = (bytes : List ℕ) × IsVerdictOn kind bytes said
 
 -- what is printed after the name of a file
 abbrev pub IsLineEnd : Verdict → List ℕ → Type 0

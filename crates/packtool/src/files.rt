@@ -4,16 +4,14 @@ ghost use Rattle.std.specs.Prelude.{◌≡◌, ◌≢◌, ◌↔◌, ◌+◌, �
 ghost use Rattle.std.specs.Io.{StartsWith};
 ghost use Rattle.std.specs.Option.{ForSome};
 ghost use Rattle.pack_index.specs.Format.{names_start, num_objects};
-ghost use Rattle.packtool.specs.Failures.{IsAt};
-ghost use Rattle.packtool.specs.Verdicts.{HasWrittenVerdict, IsRight, IsVerdictOn};
-ghost use Rattle.packtool.specs.declared.failure.FileWhy.{FileWhy};
+ghost use Rattle.store_questions.specs.Failures.{IsAt};
+ghost use Rattle.packtool.specs.Verdicts.{HasWrittenVerdict, IsEnding, IsRight, IsVerdictOn, IsVerdictOnSome};
+ghost use Rattle.store_questions.specs.declared.failure.FileWhy.{FileWhy};
 ghost use Rattle.packtool.specs.declared.files.Verdict.{Verdict};
 ghost use Rattle.streams.specs.Devices.{plain_error, plain_failed, plain_inner};
-ghost use Rattle.streams.specs.Streams.{IsReadAt};
+ghost use Rattle.streams.specs.Streams.{HasReadAll, IsReadAt};
 ghost use Rattle.streams.specs.declared.checking.Ending.{Ending};
 
-use crate::failure::{Failure, FileWhy};
-use crate::words::lossy_text;
 use gix_hash::Kind;
 use pack_index::tables::{NAMES_START, num_objects};
 use packtool_commands::{
@@ -24,7 +22,8 @@ use repositories::{metadata, retried};
 use std::alloc::{AllocError, Global};
 use std::fs::File;
 use std::io::{self, Cursor, Read, Seek, SeekFrom};
-use streams::{Ending, PipeError, Plain, ReadAt, Retrying, check_either, check_seal};
+use store_questions::{Failure, FileWhy, expect_text, file_failure as failure};
+use streams::{Ending, PipeError, Plain, ReadAt, Retrying, Source, check_either, check_seal};
 
 // How a pack index begins, of version 2 and later.
 const MAGIC: [u8; 4] = *b"\xfftOc";
@@ -175,7 +174,9 @@ fn fault_end(alloc: Global, why: &str) -> Result<String, AllocError>
 
 // The verdict on standard input. Its first bytes decide whether it is a pack index. No more of a
 // pack index is read than its counts allow.
-fn verdict_of_input<'a>(rt: &HostRuntime, kind: Option<Kind>) -> Result<Verdict, Failure<'a>> {
+fn verdict_of_input<'a>(rt: &HostRuntime, kind: Option<Kind>) -> Result<Verdict, Failure<'a>>
+    ensures { IfOk result (IsVerdictOnSome kind) }
+{
     let path = "-";
     let mut reader = rt.reader();
     let mut bytes = Vec::new(rt.alloc());
@@ -225,7 +226,9 @@ fn verdict_of_file<'a>(
     rt: &HostRuntime,
     path: &str,
     kind: Option<Kind>,
-) -> Result<Verdict, Failure<'a>> {
+) -> Result<Verdict, Failure<'a>>
+    ensures { IfOk result (IsVerdictOnSome kind) }
+{
     if is_chain_directory(rt, path) {
         return Ok(Verdict::Skipped);
     }
@@ -287,8 +290,7 @@ fn is_chain_directory(rt: &HostRuntime, path: &str) -> bool
 // Whether the name is that of a pack index, or the bytes begin as one of version 2. Fails if they
 // cannot be read, except for bytes that are too few.
 fn is_index<'a, S: ReadAt>(rt: &HostRuntime, source: &S, path: &str) -> Result<bool, Failure<'a>>
-    ensures named { IfOk result (λ is. is ≡ false → (stem : List ℕ)
-        → path.now ≢ stem ++ INDEX_END.now) }
+    ensures named { (stem : List ℕ) → path.now ≡ stem ++ INDEX_END.now → result ≡ Ok true }
     ensures begun { (bytes : List ℕ) → S.content source.now ≡ Some bytes → result ≡ Ok true
         → ((stem : List ℕ) × (path.now ≡ stem ++ INDEX_END.now)) ⊎ IsReadAt bytes 0 MAGIC }
     ensures found { (bytes : List ℕ) → S.content source.now ≡ Some bytes
@@ -313,7 +315,9 @@ fn ending_in<'a, R: io::Read + Seek>(
     reader: &mut R,
     path: &str,
     kind: Option<Kind>,
-) -> Result<Ending, Failure<'a>> {
+) -> Result<Ending, Failure<'a>>
+    ensures { IfOk result (λ ending. (bytes : List ℕ) × (read : _) × IsEnding read bytes ending) }
+{
     let ending = ending_of(rt, reader, path, kind.or(Some(Kind::Sha1)))?;
     if kind.is_some() || is_sealed(&ending) {
         return Ok(ending);
@@ -339,16 +343,27 @@ fn ending_of<'a, R: io::Read>(
     reader: &mut R,
     path: &str,
     kind: Option<Kind>,
-) -> Result<Ending, Failure<'a>> {
+) -> Result<Ending, Failure<'a>>
+    ensures { IfOk result (λ ending. (bytes : List ℕ) × IsEnding kind bytes ending) }
+{
     let mut input = Plain::new(Retrying::new(reader));
-    let ending = match kind {
-        Some(kind) => check_seal(&mut input, kind),
-        None => check_either(&mut input),
-    };
-    match ending {
+    match check_as(&mut input, kind) {
         Ok(ending) => Ok(ending),
         Err(PipeError::TooMuch) => Err(failure(rt, path, FileWhy::TooMuch)),
         Err(_) => Err(unread(rt, path, &input)),
+    }
+}
+
+// How a source ends, for a kind or for either.
+fn check_as<R: Source>(input: &mut R, kind: Option<Kind>) -> Result<Ending, PipeError>
+    requires { R.has_failed input.old ≡ false }
+    ensures { IfOk result (λ ending. (bytes : List ℕ)
+        × HasReadAll (R.remaining input.old) (R.remaining input.new) bytes
+        × IsEnding kind bytes ending) }
+{
+    match kind {
+        Some(kind) => check_seal(input, kind),
+        None => check_either(input),
     }
 }
 
@@ -401,16 +416,6 @@ fn open_regular(rt: &HostRuntime, path: &str) -> Result<File, FileWhy> {
     Ok(File::open(rt, path)?)
 }
 
-/// Fails if the name of a file is not UTF-8.
-pub fn expect_text<'a>(rt: &HostRuntime, path: &str) -> Result<(), Failure<'a>>
-    ensures { OnOk result ((text : List ℕ) → path.now ≢ text ++ (0 ∷ [])) }
-{
-    match lossy_text(path) {
-        Some(text) => Err(failure(rt, text, FileWhy::NotText)),
-        None => Ok(()),
-    }
-}
-
 // The failure of a file that cannot be read, by what its reads returned.
 fn unread<'a, R: io::Read>(rt: &HostRuntime, path: &str, input: &Plain<R>) -> Failure<'a>
     ensures { (error : _) → plain_error input.now ≡ Some error
@@ -418,17 +423,4 @@ fn unread<'a, R: io::Read>(rt: &HostRuntime, path: &str, input: &Plain<R>) -> Fa
 {
     let error = input.error().unwrap_or(io::ErrorKind::UnexpectedEof.into());
     failure(rt, path, FileWhy::Read(error))
-}
-
-// Why a file is not shown or checked.
-fn failure<'a>(rt: &HostRuntime, path: &str, why: FileWhy) -> Failure<'a>
-    ensures { IsAt why path.now result }
-{
-    match (
-        String::from_str(rt.alloc(), path),
-        Box::new(rt.alloc(), why),
-    ) {
-        (Ok(path), Ok(why)) => Failure::File { path, why },
-        _ => Failure::Memory,
-    }
 }

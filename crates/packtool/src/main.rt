@@ -13,28 +13,15 @@ ghost use Rattle.packtool.specs.Verdicts.{AreDone, IsRead};
 ghost use Rattle.streams.specs.Devices.{plain_failed, plain_inner};
 
 mod arguments;
-mod failure;
 mod files;
-mod line_reader;
-mod output;
-mod stores;
 mod words;
 
 use arguments::{FileCommand, FileRequest, Request};
-use failure::Failure;
 use gix_hash::Kind;
-use output::{buffered, flushed, report};
 use std::io::{self, ErrorKind};
 use std::process::ExitCode;
+use store_questions::{FAILED, FOUND, Failure, NOTHING, buffered, flushed, lossy_text, report};
 use streams::Plain;
-use words::lossy_text;
-
-// The statuses, a worse one above a better.
-const FOUND: u8 = 0;
-
-const NOTHING: u8 = 1;
-
-const FAILED: u8 = 2;
 
 // How errors of the command line begin. All others begin with the program's name.
 const USAGE_MARK: &str = "error: ";
@@ -79,7 +66,7 @@ fn run_words<'a>(rt: &HostRuntime, words: &'a [String]) -> Result<u8, Failure<'a
         Err(error) => return print_usage(rt, words, &error),
     };
     match arguments::read_request(&matches) {
-        Some(Request::Store(request)) => stores::answer(rt, &request),
+        Some(Request::Store(request)) => store_questions::answer(rt, &request),
         Some(Request::Files(request)) => read_files(rt, &request),
         None => Ok(FAILED),
     }

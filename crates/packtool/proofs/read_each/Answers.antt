@@ -1,5 +1,5 @@
 use Rattle.gix_hash.proofs.Std.{[], take_more}
-use Rattle.packtool.proofs.StatusLemmas.{done-more}
+use Rattle.packtool.proofs.Done.{done-more}
 use Rattle.packtool.proofs.read_each.Goals as goal
 
 pub loop-path-preserved : goal.loop-path-preserved

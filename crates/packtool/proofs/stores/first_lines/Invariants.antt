@@ -1,6 +1,0 @@
-use Rattle.gix_hash.proofs.Std.{◌≤◌, take}
-use Rattle.packtool.specs.WholeLines.{AreWhole}
-use Rattle.packtool.proofs.stores.first_lines.Given as goal
-
-abbrev pub invariant-loop-at : goal.invariant-loop-at
-invariant-loop-at l = record { bound : l.end ≤ l.at; whole : AreWhole (take l.end l.lines) }

@@ -1,0 +1,5 @@
+pub mod Answers
+pub mod Failures
+pub mod LineReaders
+pub mod WholeLines
+pub mod Written

@@ -1,0 +1,370 @@
+//! What is asked of the store of an object directory, which is kept from one question to the next.
+
+ghost use Rattle.std.specs.Prelude.{◌≡◌, ◌↔◌, ◌≤◌, ◌++◌, [], All, Bool, IfOk, IsErrOf, IsSomeAnd, IsTrue, Ok, OnOk, Some, false, if◌then◌else◌, is_none, max, true};
+ghost use Rattle.std.specs.Global.{Global};
+ghost use Rattle.std.proofs.Props.{props};
+ghost use Rattle.std.specs.Option.{ForSome};
+ghost use Rattle.gix_hash.specs.Words.{KindDigits, first_byte_of, hex_len_of};
+ghost use Rattle.object_store.specs.Stores.{IsReopened};
+ghost use Rattle.directory_store.specs.Opened.{HasAllOf};
+ghost use Rattle.directory_store.specs.Stores.{IsListedBy};
+ghost use Rattle.directory_store.specs.declared.loose.LooseIds.{LooseIds};
+ghost use Rattle.packtool_commands.specs.Stores.{AreListed, HasNamedBelow};
+ghost use Rattle.packtool_commands.specs.declared.error.StoreError.{StoreError};
+ghost use Rattle.repositories.specs.Answers.{IfKnown};
+ghost use Rattle.streams.specs.Devices.{plain_failed, plain_inner};
+ghost use Rattle.streams.specs.Streams.{lines_of};
+ghost use Rattle.store_questions.specs.Answers.{HasAnsweredLines, HasAsked, IsStatus, IsStoreOf, checked_of};
+ghost use Rattle.store_questions.specs.Failures.{failure_of};
+ghost use Rattle.store_questions.specs.Written.{HasWrittenAll, HasWrittenLines};
+ghost use Rattle.store_questions.specs.declared.failure.Failure.{Failure};
+
+use crate::answering::AnswerLines;
+use crate::failure::{Failure, skipped_mark};
+use crate::output::report;
+use crate::request::{Question, StoreRequest};
+use crate::{FAILED, FOUND, NOTHING};
+use directory_store::{DirectoryStore, Error, LooseIds, StoreFiles};
+use gix_hash::{Kind, Prefix};
+use object_store::{Reopen, Store, StorePaths};
+use packtool_commands::{
+    Answers, NoAnswer, PrefixLines, StoreError, find_each, locate_each, name_each, names,
+};
+use repositories::ObjectDirectory;
+use std::alloc::{AllocError, Global};
+use std::collections::BTreeSet;
+use std::io;
+use std::time::{SystemTime, UNIX_EPOCH};
+use streams::{Plain, Sink};
+
+// The most ids or locations of several lines that are held at a time.
+const MAX_FOUND: usize = 1 << 16;
+
+// What is asked of the store of an object directory.
+#[derive(Drop)]
+pub(crate) struct Asked<'r, R: StoreFiles> {
+    // Where it prints, and what it reads the store by.
+    host: &'r HostRuntime,
+    rt: &'r R,
+    directory: &'r ObjectDirectory,
+    question: Question,
+    // The fewest digits of an abbreviation.
+    least: usize,
+    // The store that was asked last.
+    kept: Option<DirectoryStore<R>>,
+    // The reports on what is skipped that were printed.
+    reported: BTreeSet<String>,
+    ghost enough: { 4 ≤ least },
+    ghost fits: { least ≤ hex_len_of directory.now.kind },
+    ghost kept_is_of: { ForSome kept (λ store. IsStoreOf directory.now (R.answers rt.now)
+        store.directory (R.answers store.rt)) } by { Prim.hlevel props },
+}
+
+impl<'r, R: StoreFiles> Asked<'r, R> {
+    // What a request asks of the store of this object directory.
+    pub(crate) fn new<'a>(
+        host: &'r HostRuntime,
+        rt: &'r R,
+        directory: &'r ObjectDirectory,
+        request: &StoreRequest<'a>,
+    ) -> Result<Self, Failure<'a>>
+        ensures question { IfOk result (λ asked. asked.question ≡ request.now.question) }
+        ensures least { IfOk result (λ asked. asked.least ≡ max request.now.least 4) }
+        ensures directory { IfOk result (λ asked. asked.directory.now ≡ directory.now) }
+        ensures rt { IfOk result (λ asked. asked.rt.now ≡ rt.now) }
+    {
+        Ok(Asked {
+            host,
+            rt,
+            directory,
+            question: request.question,
+            least: least_in(directory.kind, request.least)?,
+            kept: None,
+            reported: BTreeSet::new(host.alloc()),
+        })
+    }
+}
+
+impl<R: StoreFiles> Asked<'_, R> {
+    // Opens the store, and writes the lines of `abbreviate`. Lines that were written before the
+    // store was opened again may lack ids that were skipped then.
+    fn write_all_names<'a, W: io::Write>(&mut self, out: &mut Plain<W>) -> Result<u8, Failure<'a>>
+        requires { plain_failed out.old ≡ false }
+        ensures output { OnOk result (plain_failed out.new ≡ false) }
+        ensures answered { IfOk result (λ status. IsSomeAnd self.new.kept (λ store. (any : Bool)
+            × IsStatus (store.skipped_before.items ++ store.skipped.items) any status
+            × (first : _) × IsStoreOf self.old.directory.now (R.answers self.old.rt.now)
+            first.directory (R.answers first.rt) × (first.loose.which ≡ LooseIds.All)
+            × HasNamedBelow 256 self.old.least
+            (⟦<DirectoryStore<R> as Reopen>⟧.had first store) any
+            (W.contents (plain_inner out.old)) (W.contents (plain_inner out.new)))) }
+        ensures written { IfOk result (λ status. HasWrittenAll self.old.least
+            self.old.directory.now (R.answers self.old.rt.now) status
+            (W.contents (plain_inner out.old)) (W.contents (plain_inner out.new))) }
+    {
+        let mut store = DirectoryStore::open(self.rt, self.directory, LooseIds::All)?;
+        let ran = names(self.host.alloc(), &mut store, self.least, out);
+        let was_whole = report_skipped(self.host, store.skipped_before(), &mut self.reported);
+        let kept = self.keep(store, ran, out)?;
+        let status = status_if(kept.1, kept.0);
+        if was_whole? { Ok(status) } else { Ok(FAILED) }
+    }
+
+    // The prefixes whose loose objects are checked: all of them for `locate`, and none otherwise.
+    fn checked<'p>(&self, prefixes: &'p [Prefix]) -> &'p [Prefix]
+        ensures { result.now ≡ checked_of self.now.question prefixes.now }
+    {
+        match self.question {
+            Question::Locate => prefixes,
+            _ => &[],
+        }
+    }
+
+    // Writes what each of the lines finds in the store as it is now.
+    fn write_lines<'a, W: io::Write>(
+        &mut self,
+        lines: &[u8],
+        answers: Answers,
+        out: &mut Plain<W>,
+    ) -> Result<(u8, Option<NoAnswer>), Failure<'a>>
+        requires { plain_failed out.old ≡ false }
+        ensures question { self.new.question ≡ self.old.question }
+        ensures least { self.new.least ≡ self.old.least }
+        ensures directory { self.new.directory ≡ self.old.directory }
+        ensures rt { self.new.rt ≡ self.old.rt }
+        ensures output { OnOk result (plain_failed out.new ≡ false) }
+        ensures untouched { IsErrOf result Failure.TooMany → out.new ≡ out.old }
+        ensures answered { IfOk result (λ ended. IsSomeAnd self.new.kept (λ store. HasAsked Global
+            self.old.question self.old.least answers self.old.directory.now
+            (R.answers self.old.rt.now) store.loose.which
+            (⟦<DirectoryStore<R> as StorePaths>⟧.pack_path store)
+            (⟦<DirectoryStore<R> as StorePaths>⟧.loose_paths store)
+            (⟦<DirectoryStore<R> as Store>⟧.view store) store.skipped.items (lines_of lines.now)
+            ended.1 ended.0 (W.contents (plain_inner out.old))
+            (W.contents (plain_inner out.new)))) }
+    {
+        let alloc = self.host.alloc();
+        let lines = PrefixLines::read(alloc, self.directory.kind, lines)?;
+        let loose = loose_of(lines.prefixes());
+        let checked = self.checked(lines.prefixes());
+        let mut store = store_now(
+            self.host,
+            self.rt,
+            self.directory,
+            self.kept.take(),
+            loose,
+            checked,
+        )?;
+        let ran = ask_for_lines(
+            alloc,
+            self.question,
+            self.least,
+            &mut store,
+            &lines,
+            answers,
+            out,
+        );
+        let kept = self.keep(store, ran, out)?;
+        Ok((status_if(kept.1, kept.0.is_none()), kept.0))
+    }
+
+    // Keeps a store, except after a look-up in it that failed. Returns what a command found over
+    // the store, and whether nothing of the store was skipped.
+    fn keep<'a, T: Drop, W>(
+        &mut self,
+        store: DirectoryStore<R>,
+        ran: Result<T, StoreError>,
+        out: &Plain<W>,
+    ) -> Result<(T, bool), Failure<'a>>
+        requires of { IsStoreOf self.old.directory.now (R.answers self.old.rt.now)
+            store.directory (R.answers store.rt) }
+        requires output { IsErrOf ran StoreError.Output ↔ (plain_failed out.now ≡ true) }
+        ensures ran { IfOk result (λ kept. ran ≡ Ok kept.0) }
+        ensures whole { IfOk result (λ kept. IsTrue kept.1 ↔ (store.skipped.items ≡ [])) }
+        ensures kept { OnOk result (self.new.kept ≡ Some store) }
+        ensures objects { OnOk result (store.skipped.items ≡ [] → IfKnown (λ at. HasAllOf at
+            store.loose.which store.directory (⟦<DirectoryStore<R> as Store>⟧.view store))
+            (R.answers store.rt)) }
+        ensures question { self.new.question ≡ self.old.question }
+        ensures least { self.new.least ≡ self.old.least }
+        ensures directory { self.new.directory ≡ self.old.directory }
+        ensures rt { self.new.rt ≡ self.old.rt }
+        ensures many { IsErrOf result Failure.TooMany → IsErrOf ran StoreError.TooMany }
+        ensures output { OnOk result (plain_failed out.now ≡ false) }
+    {
+        let found = match ran {
+            Ok(found) => match report_skipped(self.host, store.skipped(), &mut self.reported) {
+                Ok(is_whole) => Ok((found, is_whole)),
+                Err(error) => Err(Failure::from(error)),
+            },
+            Err(StoreError::TooMany) => Err(Failure::TooMany),
+            Err(StoreError::Output) => Err(Failure::of_output(out)),
+            Err(StoreError::Store(error)) => return Err(failure_of(store, error)),
+        };
+        drop(self.kept.replace(store));
+        found
+    }
+}
+
+impl<R: StoreFiles> AnswerLines for Asked<'_, R> {
+    ghost asked = { λ asked. (
+      asked.question,
+      asked.least,
+      asked.directory.now,
+      R.answers asked.rt.now,
+    ) };
+
+    ghost is_answer = { λ (question, least, directory, known) answers asked lines (status, why) old
+        new. HasWrittenLines question least answers directory known (lines_of lines) status old
+        new };
+
+    ghost has_all = { λ (question, least, directory, known) asked status old new. HasWrittenAll
+        least directory known status old new };
+
+    fn write_all<'a, W: io::Write>(&mut self, out: &mut Plain<W>) -> Result<u8, Failure<'a>> {
+        self.write_all_names(out)
+    }
+
+    fn write_for_lines<'a, W: io::Write>(
+        &mut self,
+        lines: &[u8],
+        answers: Answers,
+        out: &mut Plain<W>,
+    ) -> Result<(u8, Option<NoAnswer>), Failure<'a>> {
+        self.write_lines(lines, answers, out)
+    }
+}
+
+// Writes what each of the lines finds in a store, and returns why the first line that has no
+// answer has none.
+fn ask_for_lines<S: Reopen + StorePaths, W: Sink>(
+    alloc: Global,
+    question: Question,
+    least: usize,
+    store: &mut S,
+    lines: &PrefixLines<'_, Global>,
+    answers: Answers,
+    out: &mut W,
+) -> Result<Option<NoAnswer>, StoreError>
+    requires kind { lines.now.kind ≡ (S.view store.old).kind }
+    requires listed { AreListed (S.view store.old) lines.now.prefixes.items }
+    requires enough { 4 ≤ least }
+    requires fits { least ≤ hex_len_of (S.view store.old).kind }
+    requires output { W.has_failed out.old ≡ false }
+    ensures reopened { IsReopened S.had S.view store.old store.new }
+    ensures answered { IfOk result (λ why. HasAnsweredLines Global question answers
+        least (S.pack_path store.new) (S.loose_paths store.new) (S.view store.new)
+        (lines_of lines.now.text.now) why (W.taken out.old) (W.taken out.new)) }
+    ensures untouched { IsErrOf result StoreError.TooMany → out.new ≡ out.old }
+    ensures output { IsErrOf result StoreError.Output ↔ (W.has_failed out.new ≡ true) }
+{
+    match question {
+        Question::Find => find_each(alloc, store, lines, answers, MAX_FOUND, out),
+        Question::Locate => locate_each(alloc, store, lines, answers, MAX_FOUND, out),
+        Question::Names => name_each(alloc, store, lines, least, MAX_FOUND, out),
+    }
+}
+
+// Why a look-up in a store fails; or why the store could not be opened again, after a pack index
+// was gone.
+fn failure_of<'a, R: StoreFiles>(
+    store: DirectoryStore<R>,
+    error: object_store::Error,
+) -> Failure<'a>
+    ensures { result ≡ failure_of error store.failed }
+{
+    match (error, store.into_reopen_error()) {
+        (object_store::Error::Gone { .. }, Some(failed)) => Failure::Store(failed),
+        (error, _) => Failure::LookUp(error),
+    }
+}
+
+// The store as it is now: the one that was kept, if there is one, refreshed. The files of loose
+// objects whose ids begin with one of the prefixes are checked.
+fn store_now<'a, R: StoreFiles>(
+    host: &HostRuntime,
+    rt: &R,
+    directory: &ObjectDirectory,
+    kept: Option<DirectoryStore<R>>,
+    loose: LooseIds,
+    checked: &[Prefix],
+) -> Result<DirectoryStore<R>, Failure<'a>>
+    requires { ForSome kept (λ store. IsStoreOf directory.now (R.answers rt.now) store.directory
+        (R.answers store.rt)) }
+    ensures of { IfOk result (λ store. IsStoreOf directory.now (R.answers rt.now) store.directory
+        (R.answers store.rt)) }
+    ensures listed { IfOk result (λ store. store.loose.which ≡ loose) }
+    ensures objects { IfOk result (λ store. store.skipped.items ≡ [] → IfKnown (λ at. HasAllOf at
+        store.loose.which store.directory (⟦<DirectoryStore<R> as Store>⟧.view store))
+        (R.answers store.rt)) }
+{
+    let store = match kept {
+        Some(mut store) => {
+            store.refresh(loose, SystemTime::now(host).unwrap_or(UNIX_EPOCH))?;
+            store
+        }
+        None => DirectoryStore::open(rt, directory, loose)?,
+    };
+    for prefix in checked {
+        store.check_loose_files(prefix)?;
+    }
+    Ok(store)
+}
+
+// The loose objects that prefixes may begin: those with the first byte that all prefixes have, or
+// all.
+fn loose_of(prefixes: &[Prefix]) -> LooseIds
+    ensures { All (λ (prefix : KindDigits). IsListedBy result (first_byte_of prefix.digits))
+        prefixes.now }
+{
+    let Some(first) = prefixes.first() else {
+        return LooseIds::WithFirstByte(0);
+    };
+    let byte = first.first_byte();
+    if prefixes.iter().all(|prefix| prefix.first_byte() == byte) {
+        LooseIds::WithFirstByte(byte)
+    } else {
+        LooseIds::All
+    }
+}
+
+// Prints what was skipped, unless it is reported already, and returns whether nothing was.
+fn report_skipped(
+    rt: &HostRuntime,
+    skipped: &[Error],
+    reported: &mut BTreeSet<String>,
+) -> Result<bool, AllocError>
+    ensures { IfOk result (λ is_whole. IsTrue is_whole ↔ (skipped.now ≡ [])) }
+{
+    for error in skipped {
+        let text = format!(in rt.alloc(); "{error}")?;
+        if reported.insert(text)? {
+            report(rt, error, skipped_mark(error));
+        }
+    }
+    Ok(skipped.is_empty())
+}
+
+// The status if a store was read whole, and has an id.
+fn status_if(is_whole: bool, any: bool) -> u8
+    ensures { result ≡ (if is_whole then (if any then FOUND else NOTHING) else FAILED) }
+{
+    match (is_whole, any) {
+        (false, _) => FAILED,
+        (true, true) => FOUND,
+        (true, false) => NOTHING,
+    }
+}
+
+// The fewest digits of an abbreviation, at least 4, which fails if ids of this kind have fewer.
+fn least_in<'a>(kind: Kind, least: usize) -> Result<usize, Failure<'a>>
+    ensures asked { IfOk result (λ digits. digits ≡ max least 4) }
+    ensures fits { IfOk result (λ digits. digits ≤ hex_len_of kind) }
+{
+    let least = least.max(4);
+    let most = kind.len_in_hex();
+    if least > most {
+        return Err(Failure::Least { least, most });
+    }
+    Ok(least)
+}

@@ -1,0 +1,26 @@
+//! Questions to the store of an object directory: which ids begin with a prefix, where objects are,
+//! and how ids are abbreviated, from the directories to the lines that are written.
+#![tactic(auto)]
+
+mod answering;
+mod asked;
+mod failure;
+mod line_reader;
+mod output;
+mod request;
+mod words;
+
+pub use answering::{answer, answer_in};
+pub use failure::{Failure, FileWhy, expect_text, file_failure};
+pub use output::{buffered, flushed, report};
+pub use request::{Ask, Question, StoreRequest};
+pub use words::lossy_text;
+
+/// The status if something was found.
+pub const FOUND: u8 = 0;
+
+/// The status if nothing was found, or not what was asked for.
+pub const NOTHING: u8 = 1;
+
+/// The status after an error.
+pub const FAILED: u8 = 2;
