@@ -8,8 +8,6 @@
 #[cfg(test)]
 mod callers_names;
 #[cfg(test)]
-mod callers_resolving;
-#[cfg(test)]
 mod changing;
 #[cfg(test)]
 mod directory_store_listing;
