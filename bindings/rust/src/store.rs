@@ -28,7 +28,7 @@ pub enum StoreError {
     Prefix { prefix: Prefix, error: Error },
     /// The store cannot be read: the last line that `packtool` printed.
     Failed(String),
-    /// `packtool` cannot be run in the directory.
+    /// The directory is not there, or `packtool` cannot be run or asked.
     Program(io::Error),
 }
 
