@@ -242,10 +242,10 @@ class Oddity:
         self.objects += [path / "objects" for path in chain]
         for path in chain:
             (path / "objects").mkdir(parents=True)
-        for directory in self.objects:
-            if directory.is_dir():
-                self.loose(directory, kind)
-                self.packs(directory, kind)
+        # (two paths may lead to one directory)
+        for directory in dict.fromkeys(path.resolve() for path in self.objects if path.is_dir()):
+            self.loose(directory, kind)
+            self.packs(directory, kind)
         for at, directory in enumerate(self.objects):
             if directory.is_dir() and not self.is_alone and chance(rng, 0.9 if directory.parent in chain else 0.4):
                 later = [path for path in self.objects[at + 1 :] if path.parent in chain][:1] if chance(rng, 0.8) else []
@@ -283,11 +283,11 @@ class Oddity:
                 self.write(part / other) if other != "." else None
         for name in rng.sample(NO_DIRECTORIES, rng.choice([0, 0, 1, 2])):
             self.write(directory / name / rng.choice(self.ids)[2:])
-        free = [f"{byte:02x}" for byte in range(256) if not (directory / f"{byte:02x}").exists()]
+        file, link = rng.sample([path for path in (directory / f"{byte:02x}" for byte in range(256)) if not os.path.lexists(path)], 2)
         if chance(rng, 0.04):
-            self.write(directory / rng.choice(free))
+            self.write(file)
         if chance(rng, 0.1):
-            (directory / rng.choice(free)).symlink_to(rng.choice(["none", "info", rng.choice(self.ids)[:2]]))
+            link.symlink_to(rng.choice(["none", "info", rng.choice(self.ids)[:2]]))
 
     def packs(self, directory, kind):
         """Makes packs in a directory, and what looks like them."""
