@@ -10,7 +10,7 @@ pub const REST: &str =
 usage: oidtool find PREFIX | find-change LETTERS | find-in KIND PREFIX | hash KIND | hash-file KIND N PATH | seal KIND
 
   find PREFIX            prints the ids of a sorted list that begin with the prefix
-  find-change LETTERS    the same, with the prefix and the ids in the letters z to k
+  find-change LETTERS    the same, with the prefix and the output, but not the list, in Jujutsu's letters z to k
   find-in KIND PREFIX    the same for a strictly increasing list of one kind
   hash KIND              prints the digest of its input
   hash-file KIND N PATH  prints the digest of the first N bytes of a file

@@ -1,2 +1,2 @@
--- What the words of a command ask for, what each command does, and the status of the program.
+-- What each command does.
 pub mod Commands

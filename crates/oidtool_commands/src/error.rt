@@ -3,6 +3,7 @@
 ghost use Rattle.std.specs.Prelude.{◌≡◌};
 
 use list_search::SearchError;
+use oidtool_words::ArgError;
 use streams::{PipeError, WriteFailed};
 use thiserror::Error as ThisError;
 
@@ -74,4 +75,20 @@ impl From<WriteFailed> for CommandError {
     fn from(_failed: WriteFailed) -> Self {
         CommandError::Output
     }
+}
+
+/// Why a program did not run a command to its end.
+///
+/// ```
+/// let why = Failure::Command(CommandError::Memory);
+/// println!(rt; "{why}")?;
+/// ```
+#[derive(Debug, Drop, ThisError)]
+pub enum Failure<'a> {
+    /// The arguments are no command.
+    #[error("{0}")]
+    Args(ArgError<'a>),
+    /// The command failed.
+    #[error("{0}")]
+    Command(CommandError),
 }

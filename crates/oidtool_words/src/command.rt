@@ -1,8 +1,8 @@
 //! The command line.
 
 ghost use Rattle.std.specs.Prelude.{[], ◌∷◌, IfOk, IfErr};
-ghost use Rattle.id_lookup.specs.Words.{IsNameOf};
-ghost use Rattle.oidtool_commands.specs.Commands.{AsksFor, IsNumberOf, IsKindRefusal, IsNumberRefusal, IsWordsRefusal, texts_of};
+ghost use Rattle.gix_hash.specs.Words.{IsNameOf};
+ghost use Rattle.oidtool_words.specs.CommandLines.{AsksFor, IsNumberOf, IsKindRefusal, IsNumberRefusal, IsWordsRefusal, texts_of};
 
 use gix_hash::Kind;
 use std::fmt;

@@ -2,29 +2,10 @@
 
 ghost use Rattle.std.specs.Prelude.{◌≡◌};
 ghost use Rattle.std.specs.Process.{exit_status as ended_with};
-ghost use Rattle.oidtool_commands.specs.Commands.{status_of};
+ghost use Rattle.oidtool_words.specs.CommandLines.{status_of};
 
-use crate::command::ArgError;
-use crate::error::CommandError;
 use std::fmt;
 use std::process::ExitCode;
-use thiserror::Error as ThisError;
-
-/// Why a program did not run a command to its end.
-///
-/// ```
-/// let why = Failure::Command(CommandError::Memory);
-/// println!(rt; "{why}")?;
-/// ```
-#[derive(Debug, Drop, ThisError)]
-pub enum Failure<'a> {
-    /// The arguments are no command.
-    #[error("{0}")]
-    Args(ArgError<'a>),
-    /// The command failed.
-    #[error("{0}")]
-    Command(CommandError),
-}
 
 /// The exit status for a result that counts what was found or written: 0 for at least one, 1 for
 /// none, and 2 for an error.
