@@ -3,7 +3,7 @@
 ghost use Rattle.std.specs.Prelude.{◌≡◌, ◌<◌, ◌∷◌, ◌++◌, [], ℕ, List, OnOk, IfOk, IfErr, Err, length};
 ghost use Rattle.std.specs.Io.KnownBytes.{Appends};
 ghost use Rattle.gix_hash.specs.Words.{hex_letter, prefix_read_in, spelling};
-ghost use Rattle.id_lookup.specs.Words.{IsShortestName};
+ghost use Rattle.id_lookup.specs.Words.{IsShortestAbbreviation};
 ghost use Rattle.callers.specs.Names.{Resolves};
 
 use gix_hash::{ObjectId, Prefix, prefix};
@@ -47,7 +47,7 @@ pub fn resolve<'a>(index: &IdIndex<'a>, name: &str) -> Result<Resolved<'a>, pref
 /// Writes the abbreviation of an id of an index, and a line feed.
 pub fn write_name<W: io::Write>(index: &IdIndex<'_>, at: usize, out: &mut W) -> io::Result<()>
     requires { at < length index.now.ids }
-    ensures { OnOk result ((name : List ℕ) × IsShortestName index.now.ids at name
+    ensures { OnOk result ((name : List ℕ) × IsShortestAbbreviation index.now.ids at name
         × Appends (W.contents out.old) (W.contents out.new) (spelling hex_letter name ++ 10 ∷ [])) }
 {
     index.abbreviate(at).write_hex_to(out)?;

@@ -1,6 +1,6 @@
 -- What a store that lists the loose objects with one first byte has of the objects with any.
 use mathlib.Core.Logic.{∥∥₁_map}
-use Rattle.gix_hash.proofs.Std.{◌≡◌, ◌∷◌, ◌<◌, ◌≤◌, [], ℕ, All-cons, All-contains, All-nil, Bool, Contains, Contains-get_or, List, get_or, arith, inl, inr, length, nat_eq, range_with_len, refl, starts_with, subst, sym}
+use Rattle.gix_hash.proofs.Std.{◌≡◌, ◌∷◌, ◌<◌, ◌≤◌, [], ℕ, Bool, Contains, Contains-get_or, List, get_or, arith, inl, inr, length, nat_eq, range_with_len, refl, starts_with, subst, sym}
 use Rattle.std.proofs.lemmas.List.FromFn.{get_or-range_with_len, length-range_with_len}
 use Rattle.gix_hash.specs.Words.{first_byte_of}
 use Rattle.gix_hash.specs.declared.Kind.{Kind}
@@ -8,8 +8,8 @@ use Rattle.id_lookup.specs.Words.{IsIndexOf, matches}
 use Rattle.id_lookup.proofs.Beginnings.{first_byte_of-begins}
 use Rattle.id_lookup.proofs.Filters.{contains_had, contains_kept, kept_passes}
 use Rattle.id_lookup.proofs.SameMembers.{part_is}
-use Rattle.object_store.proofs.Whole.{name_in, read_had, read_has}
-use Rattle.object_store.specs.Stores.{AreIdsRead, IsNameIn, StoreView}
+use Rattle.object_store.proofs.Whole.{abbreviation_among, read_had, read_has}
+use Rattle.object_store.specs.Stores.{AreIdsRead, IsAbbreviationIn, StoreView}
 use Rattle.repositories.specs.Answers.{Answers}
 use Rattle.directory_store.specs.Loose.{bytes_asked}
 use Rattle.directory_store.specs.Opened.{AreObjects, HasAll, HaveCounts, IsObject}
@@ -23,9 +23,9 @@ in_range n byte low =
     let is : get_or (range_with_len 0 n) byte 0 ≡ byte = omega (arith, get_or-range_with_len 0 n byte 0 low) in
     subst (Contains (range_with_len 0 n)) is (Contains-get_or (range_with_len 0 n) byte 0 (omega (arith, low, length-range_with_len 0 n)))
 
-only_one : (only byte : ℕ) → Contains (only ∷ []) byte → byte ≡ only
-only_one only byte has =
-    All-contains (λ b. b ≡ only) (only ∷ []) byte (All-cons (λ b. b ≡ only) only [] refl (All-nil (λ b. b ≡ only))) has
+-- a list of one has nothing else
+pub only_one : {X : Type 0} (only other : X) → Contains (only ∷ []) other → other ≡ only
+only_one only other has = grind arith
 
 -- a byte of which loose objects are listed is one of the bytes that are asked for
 asked : (which : LooseIds) (byte : ℕ) → byte < 256 → IsListedBy which byte → Contains (bytes_asked which) byte
@@ -86,14 +86,14 @@ module _ (at : Answers) (which : LooseIds) (directories objects : List (List ℕ
         );
       })
 
-  -- and a name among the ids that were read is one among all of these objects
-  pub named_of_all : (read : List (List ℕ)) (least : ℕ) (id name : List ℕ) → IsListedBy which (first_byte_of id) → AreIdsRead view (first_byte_of id) read → 2 ≤ least
-      → IsNameIn least read id name → IsNameIn least objects id name
-  named_of_all read least id name listed ids_read two is =
+  -- and an abbreviation among the ids that were read is one among all of these objects
+  pub abbreviation_of_all : (read : List (List ℕ)) (least : ℕ) (id name : List ℕ) → IsListedBy which (first_byte_of id) → AreIdsRead view (first_byte_of id) read → 2 ≤ least
+      → IsAbbreviationIn least read id name → IsAbbreviationIn least objects id name
+  abbreviation_of_all read least id name listed ids_read two is =
       let first = first_byte_of id in
       let low = ids_read.small in
       let known = has.are_known counted in
-      name_in first read objects
+      abbreviation_among first read objects
       (λ digits there.
       contained objects digits (∥∥₁_map ((has.members counted digits).0 (read_had view first read known ids_read digits there))
       (λ one. (are.members digits).1 (among_all at which view.kind directories first low listed digits one))))

@@ -1,11 +1,11 @@
 -- What a store has that was opened: by what directories and files answer.
-use Rattle.gix_hash.proofs.Std.{◌≡◌, ◌∙◌, ◌∷◌, ◌↔◌, [], ℕ, All, All-cons, All-head, All-nil, All-tail, Contains, Contains-append_cases, Contains-append_left, Contains-append_right, Contains-get_or, List, Ok, Some, ap, flat_map, get_or, inl, inr, map, refl, subst, sym, unwrap_or}
+use Rattle.gix_hash.proofs.Std.{◌≡◌, ◌∙◌, ◌∷◌, ◌↔◌, [], ℕ, All, All-cons, All-head, All-nil, All-tail, Contains, Contains-append_cases, Contains-append_left, Contains-append_right, Contains-get_or, List, Ok, Some, ap, flat_map, get_or, inl, inr, map, option_map, refl, subst, sym, unwrap_or}
 use Rattle.std.specs.Result.{result_ok}
 use Rattle.gix_hash.specs.Words.{first_byte_of}
 use Rattle.gix_hash.specs.declared.Kind.{Kind}
-use Rattle.object_store.specs.Stores.{AreKnown, StoreView, ids_in}
-use Rattle.pack_index.specs.Format.{HasCounts, names_in}
-use Rattle.pack_index.specs.Lazy.{LazyIndex}
+use Rattle.object_store.specs.Stores.{AreKnown, StoreView, ids_held}
+use Rattle.pack_index.specs.Format.{HasCounts, ids_in}
+use Rattle.pack_index.specs.Lazy.{HaveRightCounts, IndexView, LazyIndex, Tables, seen, tables_in}
 use Rattle.repositories.specs.Answers.{Answers}
 use Rattle.directory_store.specs.Loose.{HasLoose, bytes_asked}
 use Rattle.directory_store.specs.Opened.{HasIndex, HasObject, HaveCounts, IsObject}
@@ -21,37 +21,51 @@ module _ (at : Answers) (kind : Kind) where
   abbrev IsCounted : List ℕ → Type 0
   IsCounted path = (bytes : List ℕ) × (at.bytes path ≡ Ok bytes) × HasCounts kind bytes
 
-  abbrev bytes_of : List ℕ → List ℕ
-  bytes_of path = unwrap_or (bytes_at at path) []
+  abbrev tables_at : List ℕ → Tables
+  tables_at path = tables_in kind (unwrap_or (bytes_at at path) [])
 
-  bytes_is : (path bytes : List ℕ) → at.bytes path ≡ Ok bytes → bytes_of path ≡ bytes
-  bytes_is path bytes is = ap (λ answer. unwrap_or (result_ok answer) []) is
+  tables_are : (path bytes : List ℕ) → at.bytes path ≡ Ok bytes → tables_at path ≡ tables_in kind bytes
+  tables_are path bytes is = ap (λ answer. tables_in kind (unwrap_or (result_ok answer) [])) is
 
-  -- the bytes of such files are known, and their fan-out tables are right
-  contents_are : (paths : List (List ℕ)) → All IsCounted paths → map (bytes_at at) paths ≡ map Some (map bytes_of paths)
-  contents_are [] are = refl
-  contents_are (path ∷ paths) are =
+  abbrev IsOfKind : LazyIndex → Type 0
+  IsOfKind index = index.kind ≡ kind
+
+  -- the tables of pack indexes that are read from such files are known, and their fan-out tables are right
+  tables_known : (indexes : List LazyIndex) (paths : List (List ℕ)) → All IsOfKind indexes → map (λ (index : LazyIndex). index.content) indexes ≡ map (bytes_at at) paths
+      → All IsCounted paths → map (λ (pack : IndexView). pack.tables) (map seen indexes) ≡ map Some (map tables_at paths)
+  tables_known [] [] kinds contents are = refl
+  tables_known [] (path ∷ paths) kinds contents are = cc
+  tables_known (index ∷ indexes) [] kinds contents are = cc
+  tables_known (index ∷ indexes) (path ∷ paths) kinds contents are =
       let one = All-head IsCounted path paths are in
-      let content : bytes_at at path ≡ Some (bytes_of path) = ap result_ok one.1 ∙ ap Some (sym (bytes_is path one.0 one.1)) in
-      let rest = contents_are paths (All-tail IsCounted path paths are) in
-      λ i. content i ∷ rest i
+      let first : index.content ≡ bytes_at at path = cc in
+      let others : map (λ (index : LazyIndex). index.content) indexes ≡ map (bytes_at at) paths = cc in
+      let content : index.content ≡ Some one.0 = first ∙ ap result_ok one.1 in
+      let here : (seen index).tables ≡ Some (tables_at path) =
+      (λ i. option_map (tables_in (All-head IsOfKind index indexes kinds i)) (content i)) ∙ ap Some (sym (tables_are path one.0 one.1)) in
+      let rest = tables_known indexes paths (All-tail IsOfKind index indexes kinds) others (All-tail IsCounted path paths are) in
+      λ i. here i ∷ rest i
 
-  are_all : (paths : List (List ℕ)) → All IsCounted paths → All (HasCounts kind) (map bytes_of paths)
-  are_all [] are = All-nil (HasCounts kind)
+  are_all : (paths : List (List ℕ)) → All IsCounted paths → All HaveRightCounts (map tables_at paths)
+  are_all [] are = All-nil HaveRightCounts
   are_all (path ∷ paths) are =
       let one = All-head IsCounted path paths are in
-      All-cons (HasCounts kind) (bytes_of path) (map bytes_of paths) (subst (HasCounts kind) (sym (bytes_is path one.0 one.1)) one.2)
+      All-cons HaveRightCounts (tables_at path) (map tables_at paths) (subst HaveRightCounts (sym (tables_are path one.0 one.1)) one.2)
       (are_all paths (All-tail IsCounted path paths are))
 
 module _ (at : Answers) (which : LooseIds) (view : StoreView) (directories : List (List ℕ)) (packs : List PackPaths) (listed : ArePacks at (map packs_of directories) packs)
-    (paths : view.paths ≡ map index_path packs) (contents : map (λ (pack : LazyIndex). pack.content) view.packs ≡ map (bytes_at at) view.paths)
+    (paths : view.paths ≡ map index_path packs) (indexes : List LazyIndex) (are_seen : view.packs ≡ map seen indexes) (kinds : All (IsOfKind at view.kind) indexes)
+    (contents : map (λ (index : LazyIndex). index.content) indexes ≡ map (bytes_at at) view.paths)
     (loose : (digits : List ℕ) → Contains view.loose digits ↔ ((directory : List ℕ) × Contains directories directory × Contains (bytes_asked which) (first_byte_of digits) × HasLoose at view.kind directory digits))
     (counted : HaveCounts at view.kind directories) where
-  abbrev indexes : List (List ℕ)
-  indexes = map (bytes_of at view.kind) view.paths
+  abbrev tables : List Tables
+  tables = map (tables_at at view.kind) view.paths
+
+  abbrev ids_of : Tables → List (List ℕ)
+  ids_of one = one.ids
 
   abbrev packed : List (List ℕ)
-  packed = flat_map (names_in view.kind) indexes
+  packed = flat_map ids_of tables
 
   -- the path of a pack index of the store is one in one of the directories
   place_of : (path : List ℕ) → Contains view.paths path → (directory : List ℕ) × Contains directories directory × HasIndex at directory path
@@ -65,27 +79,27 @@ module _ (at : Answers) (which : LooseIds) (view : StoreView) (directories : Lis
 
   packed_from : (id : List ℕ) → Contains packed id → (directory : List ℕ) × Contains directories directory × HasObject at view.kind which directory id
   packed_from id has =
-      let bytes = flat_from (names_in view.kind) indexes id has in
-      let path = map_from (bytes_of at view.kind) view.paths bytes.0 bytes.1 in
+      let one = flat_from ids_of tables id has in
+      let path = map_from (tables_at at view.kind) view.paths one.0 one.1 in
       let place = place_of path.0 path.1 in
       let file = counted place.0 path.0 place.1 place.2 in
-      let same : bytes.0 ≡ file.0 = sym path.2 ∙ bytes_is at view.kind path.0 file.0 file.1 in
-      (place.0, place.1, inl (path.0, file.0, place.2, file.1, subst (λ b. Contains (names_in view.kind b) id) same bytes.2))
+      let same : one.0 ≡ tables_in view.kind file.0 = sym path.2 ∙ tables_are at view.kind path.0 file.0 file.1 in
+      (place.0, place.1, inl (path.0, file.0, place.2, file.1, subst (λ (t : Tables). Contains t.ids id) same one.2))
 
-  packed_has : (id directory path bytes : List ℕ) → Contains directories directory → HasIndex at directory path → at.bytes path ≡ Ok bytes → Contains (names_in view.kind bytes) id → Contains packed id
+  packed_has : (id directory path bytes : List ℕ) → Contains directories directory → HasIndex at directory path → at.bytes path ≡ Ok bytes → Contains (ids_in view.kind bytes) id → Contains packed id
   packed_has id directory path bytes has index is name =
       let there = subst (λ (l : List (List ℕ)). Contains l path) (sym paths) (index_has at directories packs listed directory path has index) in
-      flat_has (names_in view.kind) indexes (bytes_of at view.kind path) id (map_has (bytes_of at view.kind) view.paths path there)
-      (subst (λ b. Contains (names_in view.kind b) id) (sym (bytes_is at view.kind path bytes is)) name)
+      flat_has ids_of tables (tables_at at view.kind path) id (map_has (tables_at at view.kind) view.paths path there)
+      (subst (λ (t : Tables). Contains t.ids id) (sym (tables_are at view.kind path bytes is)) name)
 
   pub are_known : AreKnown view
   are_known = record {
-    indexes = indexes;
-    known = contents ∙ contents_are at view.kind view.paths all_counted;
+    tables = tables;
+    known = ap (map (λ (pack : IndexView). pack.tables)) are_seen ∙ tables_known at view.kind indexes view.paths kinds contents all_counted;
     are_counted = are_all at view.kind view.paths all_counted;
   }
 
-  pub ids_are : (id : List ℕ) → Contains (ids_in view are_known) id ↔ IsObject at view.kind which directories id
+  pub ids_are : (id : List ℕ) → Contains (ids_held view are_known) id ↔ IsObject at view.kind which directories id
   unfolding are_known
   ids_are id = (
     λ has. elim (Contains-append_cases packed view.loose id has) [

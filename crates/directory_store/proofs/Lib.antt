@@ -1,11 +1,13 @@
 mod Clones
 mod FileNames
 mod IndexLists
+mod Damage
 mod DirectoryTables
 mod LooseNames
 mod LoosePaths
 mod Members
 mod Packed
+mod PathStates
 mod Held
 mod LooseMembers
 pub mod Wholes

@@ -1,7 +1,7 @@
 -- The loose objects that the names in fan-out directories say.
-use Rattle.gix_hash.proofs.Std.{◌≡◌, ◌≢◌, ◌↔◌, ◌∙◌, ◌++◌, ◌∷◌, ◌+◌, ◌-◌, ◌<◌, ◌≤◌, ◌/◌, ◌%◌, ℕ, All, Contains, Contains-append_left, Err, IsNone, List, [], None, Ok, Option, Result, Some, ap, ap₂, arith, drop, get_or, get_or-map, inl, inr, length, map, map-id, map-range_with_len_more, option_map, range_with_len, refl, subst, sym, take, unwrap_or}
+use Rattle.gix_hash.proofs.Std.{◌≡◌, ◌≢◌, ◌↔◌, ◌∙◌, ◌++◌, ◌∷◌, ◌+◌, ◌<◌, ◌≤◌, ◌/◌, ◌%◌, ℕ, All, Contains, Contains-append_left, Err, IsNone, List, [], None, Ok, Option, Result, Some, ap, arith, drop, get_or, get_or-map, inl, inr, length, map, map-id, map-range_with_len_more, option_map, range_with_len, refl, subst, sym, take, unwrap_or}
 use Rattle.std.specs.Global.{Global}
-use Rattle.std.specs.Prelude.{MatchOption, String, Vec}
+use Rattle.std.specs.Prelude.{String, Vec}
 use Rattle.std.specs.declared.io.ErrorKind.{ErrorKind}
 use Rattle.std.specs.declared.io.ErrorKind.TheVariants.{NotFound}
 use Rattle.std.proofs.lemmas.List.Elements.{Contains-push, Contains-push_cases}
@@ -16,11 +16,9 @@ use Rattle.repositories.specs.Stores.{hex_of}
 use Rattle.repositories.specs.Walks.{state_at}
 use Rattle.repositories.specs.declared.directories.Found.{Found}
 use Rattle.repositories.specs.declared.state.FileState.{FileState}
-use Rattle.directory_store.specs.Loose.{AreLooseIn, AreNamesIn, bytes_asked, fan_out_in, listed_in}
+use Rattle.directory_store.specs.Loose.{AreLooseIn, AreNamesIn, fan_out_in, listed_in}
 use Rattle.directory_store.specs.Packs.{if_listed, split_names}
-use Rattle.directory_store.specs.Stores.{AppendsLooseIds, only_of}
-use Rattle.directory_store.specs.declared.loose.LooseIds.{LooseIds}
-use Rattle.directory_store.specs.declared.loose.LooseIds.TheVariants as loose_ids
+use Rattle.directory_store.specs.Stores.{AppendsLooseIds}
 use Rattle.directory_store.proofs.FileNames.{are_got}
 
 -- nothing is listed where nothing is
@@ -99,27 +97,7 @@ at_position at byte index paths names path are low is =
     let listed : String Global → List ℕ = λ directory. listed_in (fan_out_in byte directory) at in
     ap (λ (all : List (List ℕ)). get_or all index []) are ∙ get_or-map listed paths index path [] low ∙ ap listed (sym is)
 
--- one byte more of a range
-pub one_byte : (bytes : List ℕ) (first byte : ℕ) → first ≤ byte → bytes ≡ range_with_len first (byte - first) → bytes ++ byte ∷ [] ≡ range_with_len first (byte + 1 - first)
-one_byte bytes first byte from are =
-    let same = λ (b : ℕ). b in
-    let len : byte + 1 - first ≡ (byte - first) + 1 = omega arith in
-    ap (λ (l : List ℕ). l ++ byte ∷ []) (are ∙ sym (map-id (range_with_len first (byte - first)))) ∙ sym (map-range_with_len_more same first (byte - first) byte (omega arith))
-    ∙ map-id (range_with_len first ((byte - first) + 1)) ∙ ap (range_with_len first) (sym len)
-
--- the range of the first bytes that are asked for
-pub in_order : (which : LooseIds) (range : ℕ × ℕ) → MatchOption (only_of which) (range ≡ (0, 255)) (λ only. range ≡ (only, only)) → range.0 ≤ range.1
-in_order loose_ids.All range is = omega (arith, ap (λ (r : ℕ × ℕ). r.0) is, ap (λ (r : ℕ × ℕ). r.1) is)
-in_order (loose_ids.WithFirstByte only) range is = omega (arith, ap (λ (r : ℕ × ℕ). r.0) is, ap (λ (r : ℕ × ℕ). r.1) is)
-
-pub all_asked : (which : LooseIds) (range : ℕ × ℕ) (end : ℕ) → MatchOption (only_of which) (range ≡ (0, 255)) (λ only. range ≡ (only, only)) → end ≡ range.1 + 1
-    → range_with_len range.0 (end - range.0) ≡ bytes_asked which
-unfolding bytes_asked
-all_asked loose_ids.All range end is last =
-    let first : range.0 ≡ 0 = ap (λ (r : ℕ × ℕ). r.0) is in
-    let len : end - range.0 ≡ 256 = omega (arith, last, ap (λ (r : ℕ × ℕ). r.1) is) in
-    ap₂ range_with_len first len
-all_asked (loose_ids.WithFirstByte only) range end is last =
-    let first : range.0 ≡ only = ap (λ (r : ℕ × ℕ). r.0) is in
-    let len : end - range.0 ≡ 1 = omega (arith, last, ap (λ (r : ℕ × ℕ). r.1) is) in
-    ap₂ range_with_len first len
+-- one byte more
+pub one_byte : (bytes : List ℕ) (byte : ℕ) → bytes ≡ range_with_len 0 byte → bytes ++ byte ∷ [] ≡ range_with_len 0 (byte + 1)
+one_byte bytes byte are =
+    ap (λ (l : List ℕ). l ++ byte ∷ []) (are ∙ sym (map-id (range_with_len 0 byte))) ∙ sym (map-range_with_len_more (λ (b : ℕ). b) 0 byte byte (omega arith)) ∙ map-id (range_with_len 0 (byte + 1))

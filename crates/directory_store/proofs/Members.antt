@@ -1,7 +1,12 @@
 -- What lists contain that are made of other lists.
-use Rattle.gix_hash.proofs.Std.{◌≡◌, ◌∙◌, ◌<◌, zero, suc, List, [], ◌∷◌, All-contains, All-map, AllZip, Contains, Contains-append_cases, Contains-append_left, Contains-append_right, Contains-get_or, ap, arith, flat_map, get_or, get_or-map, inl, inr, length, length-map, map, refl, subst, sym}
+use Rattle.gix_hash.proofs.Std.{◌≡◌, ◌∙◌, ◌<◌, ◌++◌, zero, suc, Bool, true, false, if◌then◌else◌, List, [], ◌∷◌, All, All-contains, All-map, All-push, AllZip, Contains, Contains-append_cases, Contains-append_left, Contains-append_right, Contains-get_or, ap, arith, flat_map, get_or, get_or-map, inl, inr, length, length-map, map, refl, subst, sym}
 use Rattle.std.proofs.lemmas.Slice.Zip.{AllZip-long}
 use Rattle.object_store.proofs.Zipped.{zipped_at}
+
+-- with one more, if there is room
+pub pushed : {X : Type 0} (P : X → Type 0) (xs : List X) (x : X) (ok : Bool) → All P xs → P x → All P (if ok then xs ++ x ∷ [] else xs)
+pushed P xs x true all one = All-push P xs x all one
+pushed P xs x false all one = all
 
 -- what is made of each
 pub map_has : {X Y : Type 0} (f : X → Y) (xs : List X) (x : X) → Contains xs x → Contains (map f xs) (f x)

@@ -1,15 +1,15 @@
 -- What a store has of which nothing is skipped.
 use mathlib.Core.Logic.{∥∥₁_elim, ∥∥₁_map, ∥∥₁_prop}
 use Rattle.std.proofs.Props.{props}
-use Rattle.gix_hash.proofs.Std.{◌≡◌, ◌∙◌, ◌∷◌, ◌++◌, ◌↔◌, ◌≤◌, [], ℕ, All, All-head, Bool, Contains, Err, IfOk, IsTrue, List, Ok, Option, Result, Some, ap, arith, flat_map, length, length-append, map, map-id, map-map, nat_eq, nil_from_length, refl, starts_with, subst, sym, unwrap_or}
+use Rattle.gix_hash.proofs.Std.{◌≡◌, ◌∙◌, ◌∷◌, ◌++◌, ◌↔◌, ◌≢◌, ◌≤◌, [], ℕ, All, All-head, All-map, All-tail, Bool, Contains, Err, IfOk, IsTrue, List, None, Ok, Option, Result, Some, ap, arith, flat_map, get_or, length, length-append, map, map-id, map-map, nat_eq, nil_from_length, none-some, refl, starts_with, subst, sym, unwrap_or}
 use Rattle.object_store.proofs.LooseParts.{any_decides}
 use Rattle.gix_hash.specs.Words.{first_byte_of}
 use Rattle.id_lookup.specs.Words.{IsIndexOf, matches}
 use Rattle.id_lookup.proofs.Filters.{contains_had, contains_kept, kept_passes}
+use Rattle.object_store.proofs.Held.{no_tables}
 use Rattle.object_store.proofs.Whole.{read_matches}
-use Rattle.object_store.specs.Stores.{AreIdsRead, AreKnown, StoreView, ids_in}
-use Rattle.pack_index.specs.Format.{HasCounts, names_in}
-use Rattle.pack_index.specs.Lazy.{LazyIndex}
+use Rattle.object_store.specs.Stores.{AreIdsRead, AreKnown, StoreView, ids_held}
+use Rattle.pack_index.specs.Lazy.{HaveRightCounts, IndexView, LazyIndex, Tables, seen}
 use Rattle.repositories.specs.Answers.{Answers, IfKnown}
 use Rattle.repositories.specs.Walks.{with_alternates}
 use Rattle.repositories.specs.declared.finding.ObjectDirectory.{ObjectDirectory}
@@ -26,30 +26,40 @@ use Rattle.directory_store.proofs.LooseMembers.{loose_members}
 pub contained : (ids : List (List ℕ)) (id : List ℕ) → ∥ Contains ids id ∥₁ → Contains ids id
 contained ids id has = (any_decides ids id).0 (∥∥₁_elim has (hlevel props) (any_decides ids id).1)
 
+-- options of which none is missing are known
+module _ {X : Type 0} (d : X) where
+  none_missing : (xs : List (Option X)) → All (λ (x : Option X). x ≢ None) xs → xs ≡ map Some (map (λ (x : Option X). unwrap_or x d) xs)
+  none_missing [] are = refl
+  none_missing (None ∷ xs) are = absurd (All-head (λ (x : Option X). x ≢ None) None xs are refl)
+  none_missing (Some x ∷ xs) are = ap (λ (rest : List (Option X)). Some x ∷ rest) (none_missing xs (All-tail (λ (x : Option X). x ≢ None) (Some x) xs are))
+
 -- what is known of the pack indexes of a store
 module _ (view : StoreView) (is : ∥ AreKnown view ∥₁) where
-  abbrev content_of : LazyIndex → Option (List ℕ)
-  content_of index = index.content
+  abbrev seen_of : List (Option Tables)
+  seen_of = map (λ (pack : IndexView). pack.tables) view.packs
 
-  abbrev bytes_in : Option (List ℕ) → List ℕ
-  bytes_in content = unwrap_or content []
+  abbrev some_of : Option Tables → Tables
+  some_of one = unwrap_or one no_tables
 
-  abbrev indexes_of : List (List ℕ)
-  indexes_of = map bytes_in (map content_of view.packs)
+  abbrev IsThere : Option Tables → Type 0
+  IsThere one = one ≢ None
 
-  are_indexes : (k : AreKnown view) → indexes_of ≡ k.indexes
-  are_indexes k = ap (map bytes_in) k.known ∙ map-map bytes_in Some k.indexes ∙ map-id k.indexes
+  are_tables : (k : AreKnown view) → map some_of seen_of ≡ k.tables
+  are_tables k = ap (map some_of) k.known ∙ map-map some_of Some k.tables ∙ map-id k.tables
+
+  are_there : (k : AreKnown view) → All IsThere seen_of
+  are_there k = subst (All IsThere) (sym k.known) (All-map IsThere Some k.tables (λ i d low missing. none-some (get_or k.tables i d) (sym missing)))
 
   pub known_again : AreKnown view
   known_again = record {
-    indexes = indexes_of;
-    known = ∥∥₁_elim is (hlevel props) (λ k. k.known ∙ ap (map Some) (sym (are_indexes k)));
-    are_counted = ∥∥₁_elim is (hlevel props) (λ k. subst (All (HasCounts view.kind)) (sym (are_indexes k)) k.are_counted);
+    tables = map some_of seen_of;
+    known = none_missing no_tables seen_of (∥∥₁_elim is (hlevel props) are_there);
+    are_counted = ∥∥₁_elim is (hlevel props) (λ k. subst (All HaveRightCounts) (sym (are_tables k)) k.are_counted);
   }
 
-  pub ids_again : (k : AreKnown view) → ids_in view known_again ≡ ids_in view k
+  pub ids_again : (k : AreKnown view) → ids_held view known_again ≡ ids_held view k
   unfolding known_again
-  ids_again k = ap (λ (all : List (List ℕ)). flat_map (names_in view.kind) all ++ view.loose) (are_indexes k)
+  ids_again k = ap (λ (all : List Tables). flat_map (λ (one : Tables). one.ids) all ++ view.loose) (are_tables k)
 
 -- what is found in a store that has all objects of object directories are those that begin with the digits
 pub found_members : (at : Answers) (which : LooseIds) (directories : List (List ℕ)) (view : StoreView) (prefix : List ℕ) (read found : List (List ℕ)) → HasAll at which directories view
@@ -57,7 +67,7 @@ pub found_members : (at : Answers) (which : LooseIds) (directories : List (List 
     → (digits : List ℕ) → Contains found digits ↔ (IsTrue (starts_with nat_eq digits prefix) × ∥ IsObject at view.kind which directories digits ∥₁)
 found_members at which directories view prefix read found has counted long ids_read index digits =
     let p : List ℕ → Bool = λ id. starts_with nat_eq id prefix in
-    let all = ids_in view (has.are_known counted) in
+    let all = ids_held view (has.are_known counted) in
     let same : matches prefix read ≡ matches prefix all = read_matches view (first_byte_of prefix) read (has.are_known counted) ids_read prefix long refl in (
       λ is.
           let there : Contains (matches prefix all) digits = subst (λ (l : List (List ℕ)). Contains l digits) same ((index.members digits).0 is) in
@@ -69,11 +79,11 @@ found_members at which directories view prefix read found has counted long ids_r
 
 -- what is known of a store
 module _ (answers : Option Answers) (objects : ObjectDirectory) (directories : List (List ℕ)) (skipped : List Error) (paths : List (List ℕ)) (indexes : List LazyIndex)
-    (loose : LooseObjects) (before : List LooseObjects)
+    (loose : LooseObjects) (before : List LooseObjects) (kinds : All (λ (index : LazyIndex). index.kind ≡ objects.kind) indexes)
     (opened : ∥ (skipped ≡ [] → IfKnown (λ at. AreOpened at objects directories paths indexes) answers) ∥₁)
     (listed : ∥ IfKnown (λ at. All (AreLooseOf at objects.kind directories) (loose ∷ before)) answers ∥₁) where
   abbrev view_of : StoreView
-  view_of = record { kind = objects.kind; packs = indexes; paths = paths; loose = loose.table.ids; listed = only_of loose.which }
+  view_of = record { kind = objects.kind; packs = map seen indexes; paths = paths; loose = loose.table.ids; listed = only_of loose.which }
 
   module _ (at : Answers) (known : answers ≡ Some at) (counted : HaveCounts at objects.kind directories) (found : AreOpened at objects directories paths indexes)
       (are : All (AreLooseOf at objects.kind directories) (loose ∷ before)) where
@@ -83,10 +93,10 @@ module _ (answers : Option Answers) (objects : ObjectDirectory) (directories : L
         (All-head (AreLooseOf at objects.kind directories) loose before are) loose.all
 
     abbrev known_of : AreKnown view_of
-    known_of = are_known at loose.which view_of directories found.packs found.listed found.all found.contents members_of counted
+    known_of = are_known at loose.which view_of directories found.packs found.listed found.all indexes refl kinds found.contents members_of counted
 
-    abbrev ids_of : (id : List ℕ) → Contains (ids_in view_of known_of) id ↔ IsObject at objects.kind loose.which directories id
-    ids_of = ids_are at loose.which view_of directories found.packs found.listed found.all found.contents members_of counted
+    abbrev ids_of : (id : List ℕ) → Contains (ids_held view_of known_of) id ↔ IsObject at objects.kind loose.which directories id
+    ids_of = ids_are at loose.which view_of directories found.packs found.listed found.all indexes refl kinds found.contents members_of counted
 
   pub has_all : skipped ≡ [] → IfKnown (λ at. HasAllOf at loose.which objects view_of) answers
   has_all none at known = (

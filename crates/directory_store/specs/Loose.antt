@@ -1,5 +1,5 @@
 -- Which loose objects there are: by what directories answer. Ids are given by their digits.
-use Rattle.std.specs.Prelude.{ℕ, ◌≡◌, ◌↔◌, ◌++◌, ◌∷◌, All, List, [], String, Vec, drop, map, slice_index_or, string_bytes, take, true, unwrap_or}
+use Rattle.std.specs.Prelude.{ℕ, ◌≡◌, ◌↔◌, ◌++◌, ◌∷◌, All, List, [], String, Vec, drop, flat_map, map, slice_index_or, string_bytes, take, true, unwrap_or}
 use Rattle.std.specs.Global.{Global}
 use Rattle.std.specs.List.{Contains, range_with_len}
 use Rattle.gix_hash.specs.Words.{AreIdDigits, first_byte_of, hex_letter, spelling}
@@ -45,6 +45,10 @@ pub record AreLoose (at : Answers) (kind : Kind) (which : LooseIds) (paths : Lis
 -- the path of the fan-out directory of a first byte
 abbrev pub fan_out_in : ℕ → String Global → List ℕ
 fan_out_in byte directory = string_bytes directory ++ 47 ∷ hex_of byte
+
+-- the paths of the fan-out directories that are asked for in some object directories
+abbrev pub fan_outs_in : LooseIds → List (String Global) → List (List ℕ)
+fan_outs_in which directories = flat_map (λ directory. map (λ byte. fan_out_in byte directory) (bytes_asked which)) directories
 
 -- these are the names for each object directory
 abbrev pub AreNamesIn : Answers → ℕ → List (String Global) → List (Vec ℕ Global) → Type 0

@@ -1,20 +1,21 @@
 -- Which objects an object directory and its alternates have, and a store that was opened: by what directories and files answer. Ids are given by their digits.
-use Rattle.std.specs.Prelude.{ℕ, ◌≡◌, ◌⊎◌, ◌↔◌, ◌++◌, IsTrue, List, Ok, Some, codes, map, string_bytes}
-use Rattle.std.specs.List.{Contains}
+use Rattle.std.specs.Prelude.{ℕ, ◌≡◌, ◌⊎◌, ◌↔◌, ◌++◌, All, IsTrue, List, Ok, Option, Some, codes, length, map, string_bytes}
+use Rattle.std.specs.List.{Contains, sum_by}
 use Rattle.std.specs.Path.{path_join}
 use Rattle.std.specs.Str.{is_utf8}
 use Rattle.gix_hash.specs.Words.{first_byte_of}
 use Rattle.gix_hash.specs.declared.Kind.{Kind}
 use Rattle.id_lookup.specs.Words.{IsIndex}
-use Rattle.object_store.specs.Stores.{AreKnown, StoreView, ids_in}
-use Rattle.pack_index.specs.Format.{HasCounts, names_in}
+use Rattle.object_store.specs.Stores.{AreKnown, StoreView, ids_held}
+use Rattle.pack_index.specs.Format.{HasCounts, ids_in}
 use Rattle.pack_index.specs.Lazy.{LazyIndex}
-use Rattle.repositories.specs.Answers.{Answers}
+use Rattle.repositories.specs.Answers.{Answers, IfKnown}
 use Rattle.repositories.specs.Walks.{with_alternates}
 use Rattle.repositories.specs.declared.finding.ObjectDirectory.{ObjectDirectory}
 use Rattle.directory_store.specs.Loose.{AreLoose, HasLoose, bytes_asked, listed_in}
-use Rattle.directory_store.specs.Packs.{ArePacks, bytes_at, is_found_file, packs_of, split_names}
-use Rattle.directory_store.specs.Stores.{index_path}
+use Rattle.directory_store.specs.Packs.{AreOpenOrDamaged, ArePacks, bytes_at, is_found_file, packs_of, split_names, unnamed_in}
+use Rattle.directory_store.specs.Stores.{IsChanged, IsUnread, index_path}
+use Rattle.directory_store.specs.declared.error.Error.{Error}
 use Rattle.directory_store.specs.declared.loose.LooseIds.{LooseIds}
 use Rattle.directory_store.specs.declared.loose.LooseObjects.{LooseObjects}
 use Rattle.directory_store.specs.declared.pack_paths.PackPaths.{PackPaths}
@@ -34,7 +35,7 @@ HaveCounts at kind directories = (directory path : List ℕ) → Contains direct
 -- an object directory has an object: the file of one of its pack indexes has the id, or it is loose, and asked for
 abbrev pub HasObject : Answers → Kind → LooseIds → List ℕ → List ℕ → Type 0
 HasObject at kind which directory digits =
-    ((path : List ℕ) × (bytes : List ℕ) × HasIndex at directory path × (at.bytes path ≡ Ok bytes) × Contains (names_in kind bytes) digits)
+    ((path : List ℕ) × (bytes : List ℕ) × HasIndex at directory path × (at.bytes path ≡ Ok bytes) × Contains (ids_in kind bytes) digits)
     ⊎ (Contains (bytes_asked which) (first_byte_of digits) × HasLoose at kind directory digits)
 
 -- one of the object directories has the object
@@ -49,7 +50,7 @@ pub record AreObjects (at : Answers) (kind : Kind) (which : LooseIds) (directori
 -- a store has exactly the objects that some object directories have, if the fan-out table of each of their pack indexes is right
 pub record HasAll (at : Answers) (which : LooseIds) (directories : List (List ℕ)) (view : StoreView) : Type 0 where
   pub are_known : HaveCounts at view.kind directories → AreKnown view
-  pub members : (counted : HaveCounts at view.kind directories) (digits : List ℕ) → Contains (ids_in view (are_known counted)) digits ↔ ∥ IsObject at view.kind which directories digits ∥₁
+  pub members : (counted : HaveCounts at view.kind directories) (digits : List ℕ) → Contains (ids_held view (are_known counted)) digits ↔ ∥ IsObject at view.kind which directories digits ∥₁
 
 -- where an object directory is: its path, and those of the alternates that the environment adds
 abbrev pub place_of : ObjectDirectory → List ℕ × List (List ℕ)
@@ -76,3 +77,24 @@ pub record AreOpened (at : Answers) (objects : ObjectDirectory) (directories pat
 -- these loose objects were listed in object directories
 abbrev pub AreLooseOf : Answers → Kind → List (List ℕ) → LooseObjects → Type 0
 AreLooseOf at kind directories loose = AreLoose at kind loose.which directories loose.directories.items
+
+-- Why something is skipped.
+
+-- what is skipped of an object directory and its alternates: as many alternates as cannot be used, as many pack indexes as have names that are not UTF-8, and
+-- all pack indexes with packs that are not opened, which are damaged
+pub record AreSkipped (at : Answers) (objects : ObjectDirectory) (opened : List (List ℕ)) (skipped : List Error) : Type 0 where
+  pub directories : List (List ℕ)
+  pub alternates : List Error
+  pub unnamed : List Error
+  pub damaged : List Error
+  pub packs : List PackPaths
+  pub all : skipped ≡ alternates ++ unnamed ++ damaged
+  pub found : with_alternates (place_of objects).0 (place_of objects).1 at ≡ Some (directories, length alternates)
+  pub are_unnamed : length unnamed ≡ sum_by (unnamed_in at) (map packs_of directories)
+  pub are_unread : All IsUnread (alternates ++ unnamed)
+  pub listed : ArePacks at (map packs_of directories) packs
+  pub are_damaged : AreOpenOrDamaged at objects.kind (map index_path packs) opened damaged
+
+-- why something of a store is skipped: it was so as the store was opened, by what directories and files answer, if that is known, or the store has changed since
+abbrev pub HaveReasons : Option Answers → ObjectDirectory → List (List ℕ) → List Error → Type 0
+HaveReasons known objects opened skipped = ∥ All (IsChanged (string_bytes objects.path)) skipped ⊎ IfKnown (λ at. AreSkipped at objects opened skipped) known ∥₁

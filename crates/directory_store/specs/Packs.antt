@@ -1,7 +1,8 @@
 -- Which packs there are: by what directories and files answer.
-use Rattle.std.specs.Prelude.{ℕ, ◌≡◌, ◌==◌, ◌∷◌, Bool, Err, List, [], None, Ok, Option, Result, Some, codes, false, flat_map, if◌then◌else◌, map, nat_eq}
+use Rattle.std.specs.Prelude.{ℕ, ◌≡◌, ◌⊎◌, ◌==◌, ◌∷◌, All, Bool, Err, List, [], None, Ok, Option, Result, Some, String, codes, false, flat_map, if◌then◌else◌, map, nat_eq, not, string_bytes, unwrap_or}
 use Rattle.std.specs.Cmp.Lexicographic.{slice_cmp}
-use Rattle.std.specs.List.{AllZip, ends_with, filter, slice_split}
+use Rattle.std.specs.Global.{Global}
+use Rattle.std.specs.List.{AllZip, Contains, count_by, ends_with, filter, slice_split}
 use Rattle.std.specs.List.Sorted.{IsPermutation, IsSorted}
 use Rattle.std.specs.Ordering.{nat_cmp}
 use Rattle.std.specs.Path.{path_join}
@@ -9,9 +10,15 @@ use Rattle.std.specs.Result.{result_ok}
 use Rattle.std.specs.Str.{is_utf8}
 use Rattle.std.specs.declared.io.ErrorKind.{ErrorKind}
 use Rattle.std.specs.declared.io.ErrorKind.TheVariants.{NotFound}
+use Rattle.gix_hash.specs.declared.Kind.{Kind}
+use Rattle.object_store.specs.declared.error.Error.TheVariants as look_up_errors
+use Rattle.pack_index.specs.Lazy.{IsOpenFault}
+use Rattle.pack_index.specs.declared.lazy_error.LazyError.{LazyError}
 use Rattle.repositories.specs.Answers.{Answers}
 use Rattle.repositories.specs.declared.directories.Found.{Found}
 use Rattle.directory_store.specs.Stores.{index_path, pack_path_of}
+use Rattle.directory_store.specs.declared.error.Error.{Error}
+use Rattle.directory_store.specs.declared.error.Error.TheVariants.{Index}
 use Rattle.directory_store.specs.declared.pack_paths.PackPaths.{PackPaths}
 
 -- the directory of packs of an object directory
@@ -40,6 +47,10 @@ is_index_name name = ends_with nat_eq name (codes ".idx")
 pub record AreIndexNames (names sorted : List (List ℕ)) : Type 0 where
   pub same : IsPermutation (filter is_index_name names) sorted
   pub ordered : IsSorted (slice_cmp nat_cmp) sorted
+
+-- how many pack indexes in a directory have names that are not UTF-8, as paths are
+abbrev pub unnamed_in : Answers → List ℕ → ℕ
+unnamed_in at directory = count_by (λ name. not (is_utf8 name)) (filter is_index_name (split_names (unwrap_or (names_in directory at) [])))
 
 -- the path of the pack index of a name in a directory: none if it is not UTF-8, as paths are
 abbrev pub index_in : List ℕ → List ℕ → List (List ℕ)
@@ -77,3 +88,26 @@ pub record ArePacks (at : Answers) (directories : List (List ℕ)) (packs : List
 -- the bytes of a file, as a read of it answered; or none, if it failed
 abbrev pub bytes_at : Answers → List ℕ → Option (List ℕ)
 bytes_at at path = result_ok (at.bytes path)
+
+-- the error of a pack index at this path that is damaged: by the bytes there, as a read of them answered
+pub record IsDamagedAt (at : Answers) (kind : Kind) (path : List ℕ) (error : Error) : Type 0 where
+  pub text : String Global
+  pub fault : LazyError
+  pub bytes : List ℕ
+  pub is_error : error ≡ Index (look_up_errors.Index text fault)
+  pub is_path : string_bytes text ≡ path
+  pub is_read : at.bytes path ≡ Ok bytes
+  pub is_fault : IsOpenFault false kind bytes fault
+
+-- the error of a pack index that is damaged, at one of these paths
+abbrev pub IsDamaged : Answers → Kind → List (List ℕ) → Error → Type 0
+IsDamaged at kind paths error = (path : List ℕ) × Contains paths path × IsDamagedAt at kind path error
+
+-- the pack index at this path is open, or it is damaged and has one of these errors
+abbrev pub IsOpenOrDamaged : Answers → Kind → List (List ℕ) → List Error → List ℕ → Type 0
+IsOpenOrDamaged at kind opened skipped path = Contains opened path ⊎ ((error : Error) × Contains skipped error × IsDamagedAt at kind path error)
+
+-- of the pack indexes at some paths these are open, and the others are damaged and have these errors
+pub record AreOpenOrDamaged (at : Answers) (kind : Kind) (paths opened : List (List ℕ)) (skipped : List Error) : Type 0 where
+  pub each : All (IsOpenOrDamaged at kind opened skipped) paths
+  pub are_damaged : All (IsDamaged at kind paths) skipped

@@ -10,8 +10,10 @@ use Rattle.object_store.specs.declared.error.Error as look_ups
 use Rattle.object_store.specs.declared.error.Error.TheVariants as look_up_errors
 use Rattle.pack_index.specs.declared.lazy_error.LazyError.{LazyError}
 use Rattle.pack_index.specs.declared.lazy_error.LazyError.TheVariants.{Read}
+use Rattle.repositories.specs.Answers.{Answers}
 use Rattle.repositories.specs.States.{IsSettled}
 use Rattle.repositories.specs.Stores.{hex_of}
+use Rattle.repositories.specs.Walks.{IsStateOf, or_here}
 use Rattle.repositories.specs.declared.error.Error as repositories
 use Rattle.repositories.specs.declared.error.Error.TheVariants as repository_errors
 use Rattle.repositories.specs.declared.state.FileState.{FileState}
@@ -32,11 +34,6 @@ only_of (loose_ids.WithFirstByte byte) = Some byte
 abbrev pub IsListedBy : LooseIds → ℕ → Type 0
 IsListedBy which byte = (only : ℕ) → only_of which ≡ Some only → byte ≡ only
 
--- in how many fan-out directories of an object directory the loose objects that are listed can be
-abbrev pub fan_outs_of : LooseIds → ℕ
-fan_outs_of loose_ids.All = 256
-fan_outs_of (loose_ids.WithFirstByte byte) = 1
-
 -- the id of the kind that the text is, in lowercase hex digits, if it is one
 abbrev pub IsIdText : Kind → List ℕ → Option ObjectId → Type 0
 IsIdText kind text id =
@@ -52,6 +49,10 @@ pub record AppendsLooseIds (kind : Kind) (byte : ℕ) (names : List (List ℕ)) 
   pub found : List (Option ObjectId)
   pub each : AllZip (IsLooseId kind byte) names found
   pub all : new ≡ old ++ flat_map option_to_list found
+
+-- these are the states of what some paths lead to
+abbrev pub AreStatesOf : List (List ℕ) → List FileState → Answers → Type 0
+AreStatesOf paths states at = AllZip (λ path state. IsStateOf (or_here path) state at) paths states
 
 -- each later change leaves other states, and the time before is given
 abbrev pub AreSettled : Option SystemTime → List FileState → Type 0

@@ -4,7 +4,7 @@
 ghost use Rattle.std.specs.Prelude.{◌≡◌, ◌↔◌, ◌≤◌, ℕ, Contains, IsTrue, List, length, map, nat_eq};
 ghost use Rattle.std.specs.List.{starts_with};
 ghost use Rattle.id_lookup.specs.Words.{ObjectId, first_byte_of, id_digits, matches};
-ghost use Rattle.object_store.specs.Stores.{AreIdsRead, AreMatches, IsNameIn, StoreView};
+ghost use Rattle.object_store.specs.Stores.{AreIdsRead, AreMatches, IsAbbreviationIn, StoreView};
 ghost use Rattle.repositories.specs.Answers.{Answers};
 ghost use Rattle.directory_store.specs.Opened.{AreObjects, HasAll, HaveCounts, IsObject};
 ghost use Rattle.directory_store.specs.Stores.{IsListedBy};
@@ -27,11 +27,11 @@ pub fn opened()
         → 2 ≤ length prefix → AreMatches view prefix ids → (digits : List ℕ)
         → Contains (map id_digits ids) digits ↔ (IsTrue (starts_with nat_eq digits prefix)
         × ∥ IsObject at view.kind which directories digits ∥₁) }
-    ensures named { (at : Answers) (which : LooseIds) (directories objects : List (List ℕ))
-        (view : StoreView) (read : List (List ℕ)) (least : ℕ) (id name : List ℕ)
+    ensures abbreviated { (at : Answers) (which : LooseIds) (directories objects : List (List ℕ))
+        (view : StoreView) (read : List (List ℕ)) (least : ℕ) (id short : List ℕ)
         → HasAll at which directories view → HaveCounts at view.kind directories
         → AreObjects at view.kind LooseIds.All directories objects
         → IsListedBy which (first_byte_of id)
         → AreIdsRead view (first_byte_of id) read → 2 ≤ least
-        → IsNameIn least read id name → IsNameIn least objects id name }
+        → IsAbbreviationIn least read id short → IsAbbreviationIn least objects id short }
 {}

@@ -1,11 +1,12 @@
 //! The names in directories, and the states of directories.
 
-ghost use Rattle.std.specs.Prelude.{◌≡◌, ◌⊎◌, ◌↔◌, All, IfErr, IfOk, IsNone, IsTrue, Some, [], length, vec_len};
+ghost use Rattle.std.specs.Prelude.{◌≡◌, ◌⊎◌, ◌↔◌, All, IfErr, IfOk, IsNone, IsTrue, OnOk, Some, [], length, map, string_bytes, vec_len};
 ghost use Rattle.repositories.specs.Answers.{IfKnown};
 ghost use Rattle.repositories.specs.States.{IsSettled};
+ghost use Rattle.repositories.specs.Walks.{IsStateOf, or_here};
 ghost use Rattle.directory_store.specs.Loose.{listed_in};
 ghost use Rattle.directory_store.specs.Packs.{names_in};
-ghost use Rattle.directory_store.specs.Stores.{IsChanged, IsUnread};
+ghost use Rattle.directory_store.specs.Stores.{AreStatesOf, IsChanged, IsUnread};
 
 use crate::error::Error;
 use repositories::{Directories, FileState};
@@ -27,7 +28,9 @@ pub(crate) fn list_names<R: Directories>(rt: &R, directory: &str) -> Result<Vec<
 
 // The state of a directory, before it is read or after.
 pub(crate) fn state_of<R: Directories>(rt: &R, directory: &str) -> Result<FileState, Error>
-    ensures { IfErr result IsUnread }
+    ensures err { IfErr result IsUnread }
+    ensures state { IfOk result (λ state. IfKnown (IsStateOf (or_here directory.now) state)
+        (R.answers rt.now)) }
 {
     FileState::of(rt, directory).map_err(|error| Error::file(rt.alloc(), directory, error))
 }
@@ -49,7 +52,9 @@ pub(crate) fn state_if_there<R: Directories>(
 
 // The states of directories.
 pub(crate) fn states_of<R: Directories>(rt: &R, paths: &[String]) -> Result<Vec<FileState>, Error>
-    ensures { IfOk result (λ states. vec_len states ≡ length paths.now) }
+    ensures as_many { IfOk result (λ states. vec_len states ≡ length paths.now) }
+    ensures states { IfOk result (λ states. IfKnown (AreStatesOf (map string_bytes paths.now)
+        states.items) (R.answers rt.now)) }
 {
     let mut states = Vec::new(rt.alloc());
     for path in paths {
@@ -64,7 +69,9 @@ pub(crate) fn expect_state<R: Directories>(
     path: &str,
     state: &FileState,
 ) -> Result<(), Error>
-    ensures { IfErr result (λ error. IsUnread error ⊎ IsChanged path.now error) }
+    ensures err { IfErr result (λ error. IsUnread error ⊎ IsChanged path.now error) }
+    ensures state { OnOk result (IfKnown (IsStateOf (or_here path.now) state.now)
+        (R.answers rt.now)) }
 {
     if state_of(rt, path)? == *state {
         Ok(())
@@ -80,9 +87,11 @@ pub(crate) fn expect_states<R: Directories>(
     states: &[FileState],
 ) -> Result<(), Error>
     requires { length states.now ≡ length paths.now }
+    ensures { OnOk result (IfKnown (AreStatesOf (map string_bytes paths.now) states.now)
+        (R.answers rt.now)) }
 {
-    for (path, state) in paths.iter().zip(states) {
-        expect_state(rt, path, state)?;
+    for (at, path) in paths.iter().enumerate() {
+        expect_state(rt, path, &states[at])?;
     }
     Ok(())
 }

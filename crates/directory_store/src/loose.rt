@@ -1,16 +1,16 @@
 //! The loose objects in object directories, by the names of their files.
 
-ghost use Rattle.std.specs.Prelude.{◌≡◌, ◌≢◌, ◌<◌, ◌*◌, ◌++◌, ◌∷◌, ◌==◌, All, Contains, IfOk, IfSome, IsNone, MatchOption, None, OnOk, false, length, map, string_bytes, vec_len};
-ghost use Rattle.std.specs.List.{slice_split};
+ghost use Rattle.std.specs.Prelude.{◌≡◌, ◌≢◌, ◌<◌, ◌++◌, ◌∷◌, ◌==◌, All, Contains, IfOk, IfSome, IsNone, None, OnOk, false, length, map, string_bytes, true, vec_len};
+ghost use Rattle.std.specs.List.{range_with_len, slice_split};
 ghost use Rattle.gix_hash.specs.Words.{hex_letter, id_digits, id_kind};
 ghost use Rattle.repositories.specs.Answers.{Answers, IfKnown};
 ghost use Rattle.repositories.specs.Stores.{hex_of};
-ghost use Rattle.directory_store.specs.Loose.{AreLoose, AreLooseIn, AreNamesIn, HasAllLoose, HasNamesAt, ListsIfThere, bytes_asked, fan_out_in, listed_in};
-ghost use Rattle.directory_store.specs.Stores.{AppendsLooseIds, AreAllOf, AreSettled, IsIdText, IsLooseId, fan_outs_of, only_of, path_in, paths_in};
+ghost use Rattle.directory_store.specs.Loose.{AreLoose, AreLooseIn, AreNamesIn, HasAllLoose, HasNamesAt, ListsIfThere, bytes_asked, fan_out_in, fan_outs_in, listed_in};
+ghost use Rattle.directory_store.specs.Stores.{AppendsLooseIds, AreAllOf, AreSettled, AreStatesOf, IsIdText, IsLooseId, path_in, paths_in};
 
 use crate::error::Error;
 use crate::listing::{
-    are_settled, expect_state, expect_states, list_names, state_if_there, state_of, states_of,
+    are_settled, expect_state, expect_states, list_names, state_if_there, states_of,
 };
 use crate::paths::write_loose_path;
 use gix_hash::{Alphabet, Kind, ObjectId, laws};
@@ -67,7 +67,10 @@ impl LooseObjects {
         rt: &R,
         paths: &[String],
     ) -> Result<bool, Error>
-        ensures { self.now.states ≡ None → IfOk result (λ same. same ≡ false) }
+        ensures none { self.now.states ≡ None → IfOk result (λ same. same ≡ false) }
+        ensures same { IfOk result (λ same. same ≡ true → IfSome self.now.states (λ states.
+            IfKnown (AreStatesOf (fan_outs_in self.now.which paths.now) states.items)
+            (R.answers rt.now))) }
     {
         match &self.states {
             Some(states) => Ok(Places { rt, paths }.states(self.which)? == *states),
@@ -223,17 +226,27 @@ impl<R: Directories> Places<'_, R> {
 
     // The states of the fan-out directories that are asked for.
     fn states(&self, which: LooseIds) -> Result<Vec<FileState>, Error>
-        ensures { IfOk result (λ states. vec_len states
-            ≡ length self.now.paths.now * fan_outs_of which) }
+        ensures as_many { IfOk result (λ states. vec_len states
+            ≡ length (fan_outs_in which self.now.paths.now)) }
+        ensures states { IfOk result (λ states. IfKnown (AreStatesOf
+            (fan_outs_in which self.now.paths.now) states.items) (R.answers self.now.rt.now)) }
     {
-        let (first, last) = bytes_of(which);
-        let mut states = Vec::new(self.rt.alloc());
+        states_of(self.rt, &self.fan_out_paths(which)?)
+    }
+
+    // The paths of the fan-out directories that are asked for.
+    fn fan_out_paths(&self, which: LooseIds) -> Result<Vec<String>, AllocError>
+        ensures { IfOk result (λ paths. map string_bytes paths.items
+            ≡ fan_outs_in which self.now.paths.now) }
+    {
+        let bytes = bytes_of(self.rt.alloc(), which)?;
+        let mut paths = Vec::new(self.rt.alloc());
         for path in self.paths {
-            for byte in first..=last {
-                states.push(state_of(self.rt, &fan_out(self.rt, path, byte)?)?)?;
+            for byte in &bytes {
+                paths.push(fan_out(self.rt, path, *byte)?)?;
             }
         }
-        Ok(states)
+        Ok(paths)
     }
 
     // The loose objects in each of the directories.
@@ -264,7 +277,7 @@ impl<R: Directories> Places<'_, R> {
         ensures names { IfOk result (λ parts. IfKnown (λ at. All (λ part. AreNamesIn at part.byte
             self.now.paths.now part.names.items) parts.items) (R.answers self.now.rt.now)) }
     {
-        let (first, last) = bytes_of(which);
+        let bytes = bytes_of(self.rt.alloc(), which)?;
         let several = if self.paths.len() > 1 {
             self.paths
         } else {
@@ -272,9 +285,9 @@ impl<R: Directories> Places<'_, R> {
         };
         let before = states_of(self.rt, several)?;
         let mut parts = Vec::new(self.rt.alloc());
-        for byte in first..=last {
-            let names = self.names_with(byte)?;
-            parts.push(FanOutNames { byte, names })?;
+        for byte in &bytes {
+            let names = self.names_with(*byte)?;
+            parts.push(FanOutNames { byte: *byte, names })?;
         }
         expect_states(self.rt, several, &before)?;
         Ok(parts)
@@ -329,15 +342,26 @@ impl<R: Directories> Places<'_, R> {
     }
 }
 
-// The first and the last of the first bytes that are asked for.
-fn bytes_of(which: LooseIds) -> (u8, u8)
-    ensures { MatchOption (only_of which) (result ≡ record { 0 = 0; 1 = 255 })
-        (λ byte. result ≡ record { 0 = byte; 1 = byte }) }
+// The first bytes that are asked for, in order.
+#[tactic(auto, unfolding(crate::specs::Loose::bytes_asked))]
+fn bytes_of(alloc: Global, which: LooseIds) -> Result<Vec<u8>, AllocError>
+    ensures { IfOk result (λ bytes. bytes.items ≡ bytes_asked which) }
 {
     match which {
-        LooseIds::All => (0, u8::MAX),
-        LooseIds::WithFirstByte(byte) => (byte, byte),
+        LooseIds::All => all_bytes(alloc),
+        LooseIds::WithFirstByte(byte) => [byte].to_vec(alloc),
     }
+}
+
+// All bytes, in order.
+fn all_bytes(alloc: Global) -> Result<Vec<u8>, AllocError>
+    ensures { IfOk result (λ bytes. bytes.items ≡ range_with_len 0 256) }
+{
+    let mut bytes = Vec::new(alloc);
+    for byte in 0u16..256 {
+        bytes.push(byte as u8)?;
+    }
+    Ok(bytes)
 }
 
 // The path of the fan-out directory of a first byte.

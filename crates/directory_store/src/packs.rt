@@ -1,14 +1,15 @@
 //! The pack indexes in object directories.
 
-ghost use Rattle.std.specs.Prelude.{◌≡◌, ◌⊎◌, ◌↔◌, ◌+◌, ◌++◌, ℕ, All, IfOk, if◌then◌else◌, IsNone, IsSomeAnd, IsTrue, List, OnOk, [], flat_map, length, map, string_bytes, true, vec_len};
-ghost use Rattle.std.specs.List.{filter};
+ghost use Rattle.std.specs.Prelude.{◌≡◌, ◌⊎◌, ◌↔◌, ◌+◌, ◌++◌, ℕ, All, IfErr, IfOk, if◌then◌else◌, IsNone, IsSomeAnd, IsTrue, List, OnOk, [], flat_map, length, map, not, string_bytes, true, vec_len};
+ghost use Rattle.std.specs.List.{count_by, filter, sum_by};
 ghost use Rattle.std.specs.Path.{path_join};
 ghost use Rattle.std.specs.Str.{is_utf8};
+ghost use Rattle.pack_index.specs.declared.lazy_error.LazyError.{LazyError};
 ghost use Rattle.pack_index.specs.declared.lazy_error.LazyError.TheVariants as errors;
 ghost use Rattle.repositories.specs.Answers.{IfKnown};
 ghost use Rattle.repositories.specs.States.{IsSettled};
-ghost use Rattle.directory_store.specs.Packs.{AreIndexNames, AreIndexes, AreIndexesIn, ArePacks, bytes_at, has_pack, index_in, packs_of, split_names};
-ghost use Rattle.directory_store.specs.Stores.{IsListedPack, IsIndexError, IsUnread, index_path};
+ghost use Rattle.directory_store.specs.Packs.{AreIndexNames, AreIndexes, AreIndexesIn, AreOpenOrDamaged, ArePacks, IsDamagedAt, bytes_at, has_pack, index_in, packs_of, split_names, unnamed_in};
+ghost use Rattle.directory_store.specs.Stores.{AreStatesOf, IsListedPack, IsIndexError, IsUnread, index_path, is_damage};
 
 use crate::error::Error;
 use crate::listing::{are_settled, expect_states, list_names, states_of};
@@ -19,7 +20,7 @@ use pack_index::{LazyError, LazyFile};
 use repositories::{Directories, FileState, join};
 use std::alloc::{AllocError, Global};
 use std::time::SystemTime;
-use std::{io, mem, str};
+use std::{io, str};
 use streams::ReadAt;
 
 // How many pack indexes stay open at most. The others are opened again to be read, so that a store
@@ -65,6 +66,9 @@ impl PackDirectories {
         ensures indexes { IfOk result (λ listed. IfKnown (λ at. AreIndexes at
             (map string_bytes self.now.paths.items) (map index_path listed.paths.items))
             (R.answers rt.now)) }
+        ensures skipped { IfOk result (λ listed. IfKnown (λ at. vec_len listed.skipped
+            ≡ sum_by (λ path. unnamed_in at (string_bytes path)) self.now.paths.items)
+            (R.answers rt.now)) }
     {
         let mut indexes = PackIndexes {
             paths: Vec::new(rt.alloc()),
@@ -77,22 +81,61 @@ impl PackDirectories {
         Ok(indexes)
     }
 
-    // The pack indexes in them whose packs are there. Fails if one of an earlier list is gone, or a
-    // directory has changed.
+    // The pack indexes in them whose packs are there, by an earlier list if each later change of a
+    // directory leaves another state. Fails if one of that list is gone, or if a directory has
+    // changed.
     pub(crate) fn list_again<R: Directories>(
         &self,
         rt: &R,
-        earlier: &PackIndexes,
+        earlier: PackIndexes,
+        now: Option<SystemTime>,
     ) -> Result<PackIndexes, Error>
+        requires indexes { IfKnown (λ at. AreIndexes at (map string_bytes self.now.paths.items)
+            (map index_path earlier.paths.items)) (R.answers rt.now) }
+        requires skipped { IfKnown (λ at. vec_len earlier.skipped
+            ≡ sum_by (λ path. unnamed_in at (string_bytes path)) self.now.paths.items)
+            (R.answers rt.now) }
         ensures earlier { IfOk result (λ listed. listed.are_all ≡ true
-            → All (IsListedPack listed.paths.items) earlier.now.paths.items) }
+            → All (IsListedPack listed.paths.items) earlier.paths.items) }
         ensures packs { IfOk result (λ listed. IfKnown (λ at. ArePacks at
             (map string_bytes self.now.paths.items) listed.paths.items) (R.answers rt.now)) }
+        ensures skipped { IfOk result (λ listed. IfKnown (λ at. vec_len listed.skipped
+            ≡ sum_by (λ path. unnamed_in at (string_bytes path)) self.now.paths.items)
+            (R.answers rt.now)) }
     {
-        let listed = self.list(rt)?;
-        listed.expect_all(rt.alloc(), earlier)?;
+        let listed = self.list_after(rt, earlier, now)?;
         let listed = listed.with_packs(rt)?;
         self.expect_unchanged(rt)?;
+        Ok(listed)
+    }
+
+    // The pack indexes in them, with or without packs, by an earlier list if each later change
+    // leaves another state. Fails if one of that list is gone.
+    fn list_after<R: Directories>(
+        &self,
+        rt: &R,
+        earlier: PackIndexes,
+        now: Option<SystemTime>,
+    ) -> Result<PackIndexes, Error>
+        requires indexes { IfKnown (λ at. AreIndexes at (map string_bytes self.now.paths.items)
+            (map index_path earlier.paths.items)) (R.answers rt.now) }
+        requires skipped { IfKnown (λ at. vec_len earlier.skipped
+            ≡ sum_by (λ path. unnamed_in at (string_bytes path)) self.now.paths.items)
+            (R.answers rt.now) }
+        ensures earlier { IfOk result (λ listed. All (IsListedPack listed.paths.items)
+            earlier.paths.items) }
+        ensures indexes { IfOk result (λ listed. IfKnown (λ at. AreIndexes at
+            (map string_bytes self.now.paths.items) (map index_path listed.paths.items))
+            (R.answers rt.now)) }
+        ensures skipped { IfOk result (λ listed. IfKnown (λ at. vec_len listed.skipped
+            ≡ sum_by (λ path. unnamed_in at (string_bytes path)) self.now.paths.items)
+            (R.answers rt.now)) }
+    {
+        if self.are_settled(now) {
+            return Ok(earlier);
+        }
+        let listed = self.list(rt)?;
+        listed.expect_all(rt.alloc(), &earlier)?;
         Ok(listed)
     }
 
@@ -104,7 +147,10 @@ impl PackDirectories {
     }
 
     // Fails if one of them has changed.
-    pub(crate) fn expect_unchanged<R: Directories>(&self, rt: &R) -> Result<(), Error> {
+    pub(crate) fn expect_unchanged<R: Directories>(&self, rt: &R) -> Result<(), Error>
+        ensures { OnOk result (IfKnown (AreStatesOf (map string_bytes self.now.paths.items)
+            self.now.states.items) (R.answers rt.now)) }
+    {
         expect_states(rt, &self.paths, &self.states)
     }
 }
@@ -118,6 +164,7 @@ pub(crate) struct PackIndexes {
     pub(crate) skipped: Vec<Error>,
     // Whether none is left out since its pack is missing.
     pub(crate) are_all: bool,
+    ghost are_unread: { ∥ All IsUnread skipped.items ∥₁ },
 }
 
 impl PackIndexes {
@@ -133,22 +180,27 @@ impl PackIndexes {
     }
 
     // Those whose packs are there. Fails if an index was removed with its pack.
-    pub(crate) fn with_packs<R: Directories>(mut self, rt: &R) -> Result<PackIndexes, Error>
+    pub(crate) fn with_packs<R: Directories>(self, rt: &R) -> Result<PackIndexes, Error>
         ensures all { IfOk result (λ kept. kept.are_all ≡ true
             → kept.paths.items ≡ self.paths.items) }
         ensures skipped { IfOk result (λ kept. kept.skipped ≡ self.skipped) }
         ensures packs { IfOk result (λ kept. IfKnown (λ at. kept.paths.items
             ≡ filter (has_pack at) self.paths.items) (R.answers rt.now)) }
     {
-        let listed = mem::replace(&mut self.paths, Vec::new(rt.alloc()));
-        for paths in listed {
-            if has_pack(rt, &paths)? {
-                self.paths.push(paths)?;
+        let mut paths = Vec::new(rt.alloc());
+        let mut are_all = self.are_all;
+        for one in self.paths {
+            if has_pack(rt, &one)? {
+                paths.push(one)?;
             } else {
-                self.are_all = false;
+                are_all = false;
             }
         }
-        Ok(self)
+        Ok(PackIndexes {
+            paths,
+            skipped: self.skipped,
+            are_all,
+        })
     }
 }
 
@@ -177,6 +229,8 @@ fn push_indexes<R: Directories>(
     ensures indexes { OnOk result (IfKnown (λ at. (paths : List (List ℕ))
         × AreIndexesIn at directory.now paths × (map index_path indexes.new.paths.items
         ≡ map index_path indexes.old.paths.items ++ paths)) (R.answers rt.now)) }
+    ensures skipped { OnOk result (IfKnown (λ at. vec_len indexes.new.skipped
+        ≡ vec_len indexes.old.skipped + unnamed_in at directory.now) (R.answers rt.now)) }
 {
     let listed = list_names(rt, directory)?;
     let names = index_names(rt.alloc(), &listed)?;
@@ -195,6 +249,8 @@ fn push_names(
     ensures indexes { OnOk result (map index_path indexes.new.paths.items
         ≡ map index_path indexes.old.paths.items
         ++ flat_map (index_in directory.now) (map (λ name. name.now) names.now)) }
+    ensures skipped { OnOk result (vec_len indexes.new.skipped ≡ vec_len indexes.old.skipped
+        + count_by (λ name. not (is_utf8 name)) (map (λ name. name.now) names.now)) }
 {
     for name in names {
         push_index(rt, directory, name, indexes)?;
@@ -222,7 +278,7 @@ fn push_index(
 ) -> Result<(), AllocError>
     ensures all { indexes.new.are_all ≡ indexes.old.are_all }
     ensures skipped { OnOk result (vec_len indexes.new.skipped
-        ≡ vec_len indexes.old.skipped + (if is_utf8 name.now then 0 else 1)) }
+        ≡ vec_len indexes.old.skipped + (if not (is_utf8 name.now) then 1 else 0)) }
     ensures index { OnOk result (map index_path indexes.new.paths.items
         ≡ map index_path indexes.old.paths.items ++ index_in directory.now name.now) }
 {
@@ -290,6 +346,9 @@ pub(crate) fn open_indexes<R: StoreFiles>(
         ≡ length paths.now) }
     ensures paths { IfOk result (λ opened. opened.skipped.items ≡ []
         → map index_path opened.paths.items ≡ map index_path paths.now) }
+    ensures skipped { IfOk result (λ opened. IfKnown (λ at. AreOpenOrDamaged at kind
+        (map index_path paths.now) (map index_path opened.paths.items) opened.skipped.items)
+        (R.answers rt.now)) }
 {
     for most_open in [MAX_OPEN, FEW_OPEN] {
         let opened = open_all(rt, paths, most_open, kind);
@@ -317,6 +376,9 @@ fn open_all<R: StoreFiles>(
         ≡ length listed.now) }
     ensures paths { IfOk result (λ opened. opened.skipped.items ≡ []
         → map index_path opened.paths.items ≡ map index_path listed.now) }
+    ensures skipped { IfOk result (λ opened. IfKnown (λ at. AreOpenOrDamaged at kind
+        (map index_path listed.now) (map index_path opened.paths.items) opened.skipped.items)
+        (R.answers rt.now)) }
 {
     let mut paths = Vec::with_capacity(rt.alloc(), listed.len())?;
     let mut indexes = Vec::with_capacity(rt.alloc(), listed.len())?;
@@ -353,9 +415,15 @@ fn open_pack_index<R: StoreFiles>(
     ensures path { IfOk result (λ index. index.path ≡ path.now) }
     ensures content { IfOk result (λ index. IfKnown (λ at. index.content ≡ bytes_at at path.now)
         (R.answers rt.now)) }
+    ensures err { IfErr result (λ error. IsUnread error
+        ⊎ ((fault : LazyError) × IsIndexError path.now fault error)) }
+    ensures damage { IfErr result (λ error. is_damage error ≡ true
+        → IfKnown (λ at. IsDamagedAt at kind path.now error) (R.answers rt.now)) }
 {
-    let source = rt.open_source(path, stays_open, most_kept);
-    let source = source.map_err(|error| not_opened(rt, path, error))?;
+    let source = match rt.open_source(path, stays_open, most_kept) {
+        Ok(source) => source,
+        Err(error) => return Err(not_opened(rt, path, error)),
+    };
     let len = source.len().unwrap_or(u64::MAX);
     *left = left.saturating_sub(most_kept_of(len, stays_open, most_kept));
     match LazyFile::open(source, kind) {

@@ -1,6 +1,6 @@
 //! What a pack index is read from.
 
-ghost use Rattle.std.specs.Prelude.{◌≡◌, ◌↔◌, ◌+◌, ◌-◌, ◌≤◌, IfOk, IsSome, None, false, length, max, refl, string_bytes, true, vec_len};
+ghost use Rattle.std.specs.Prelude.{◌≡◌, ◌↔◌, ◌+◌, ◌-◌, ◌≤◌, IfOk, IsOk, IsSome, None, false, length, max, refl, string_bytes, true, vec_len};
 ghost use Rattle.repositories.specs.Answers.{IfKnown};
 ghost use Rattle.directory_store.specs.Packs.{bytes_at};
 ghost use Rattle.streams.specs.Streams.{IsReadAt};
@@ -30,11 +30,14 @@ pub trait StoreFiles: Directories + Clone {
     type Source: ReadAt + Drop;
 
     /// Opens a file, to stay open or to be opened again for each read of what is not kept. It may
-    /// be kept whole if it has at most `most_kept` bytes.
+    /// be kept whole if it has at most `most_kept` bytes. A runtime whose answers are known opens
+    /// only what it reads.
     fn open_source(&self, path: &str, stays_open: bool, most_kept: u64) -> io::Result<Self::Source>
         ensures path { IfOk result (λ source. Self.Source.path source ≡ path.now) }
         ensures content { IfOk result (λ source. IfKnown (λ at. Self.Source.content source
-            ≡ bytes_at at path.now) (Self.answers self.now)) };
+            ≡ bytes_at at path.now) (Self.answers self.now)) }
+        ensures read { IfOk result (λ source. IfKnown (λ at. IsOk (at.bytes path.now))
+            (Self.answers self.now)) };
 
     /// A clone answers alike.
     ghost alike: { (rt other : Self) → Self.is_clone rt other

@@ -1,11 +1,12 @@
 //! An object store in directories.
 
 ghost use Rattle.std.specs.Prelude.{◌≡◌, ◌<◌, ◌≤◌, ◌↔◌, ◌+◌, ◌++◌, ◌∷◌, All, Contains, IfErr, IfOk, IsOk, IsTrue, OnOk, [], false, length, map, slice_index_or, string_bytes, true, vec_capacity, vec_len};
+ghost use Rattle.std.specs.List.{sum_by};
 ghost use Rattle.gix_hash.specs.Words.{hex_len_of, id_digits};
 ghost use Rattle.repositories.specs.Answers.{IfKnown};
 ghost use Rattle.directory_store.specs.Loose.{AreLoose};
-ghost use Rattle.directory_store.specs.Opened.{AreLooseOf, AreOpened, HasAllOf, place_of};
-ghost use Rattle.directory_store.specs.Packs.{ArePacks};
+ghost use Rattle.directory_store.specs.Opened.{AreLooseOf, AreOpened, AreSkipped, HasAllOf, HaveReasons, place_of};
+ghost use Rattle.directory_store.specs.Packs.{ArePacks, unnamed_in};
 ghost use Rattle.directory_store.specs.Stores.{AreSettled, IsChanged, index_path, of_repository, pack_path_of};
 
 use crate::error::Error;
@@ -61,6 +62,8 @@ pub struct DirectoryStore<R: StoreFiles> {
     ghost are_loose: { ∥ IfKnown (λ at. All (AreLooseOf at directory.kind
         (map string_bytes directories.paths.items)) (loose ∷ loose_before.items))
         (R.answers rt) ∥₁ },
+    ghost have_reasons: { HaveReasons (R.answers rt) directory (map index_path packs.items)
+        skipped.items },
 }
 
 impl<R: StoreFiles> DirectoryStore<R> {
@@ -89,32 +92,70 @@ impl<R: StoreFiles> DirectoryStore<R> {
         ensures listed { IfOk result (λ store. store.loose.which ≡ loose) }
         ensures place { IfOk result (λ store. place_of store.directory ≡ place_of directory.now) }
         ensures answers { IfOk result (λ store. R.answers store.rt ≡ R.answers rt.now) }
+        ensures reasons { IfOk result (λ store. ∥ IfKnown (λ at. AreSkipped at store.directory
+            (map index_path store.packs.items) store.skipped.items) (R.answers store.rt) ∥₁) }
         ensures objects { IfOk result (λ store. store.skipped.items ≡ [] → IfKnown (λ at.
             HasAllOf at store.loose.which store.directory
             (⟦<DirectoryStore<R> as Store>⟧.view store)) (R.answers store.rt)) }
     {
-        DirectoryStore::open_at(rt, directory, loose, None)
+        DirectoryStore::open_at(rt, directory, loose, None, None)
     }
 
-    // Opens the store, to be refreshed later if the time before is given.
-    fn open_at(
+    /// Opens the store as [`DirectoryStore::open`] does, to be refreshed later. `now` is the time
+    /// before the call, by the clock of the file system. If no directory of packs was changed in
+    /// the 20 ms before it (2 s where times are whole seconds), nothing is skipped, each pack index
+    /// has its pack, and neither packs nor alternates change later, [`DirectoryStore::refresh`]
+    /// reads only fan-out directories.
+    ///
+    /// ```
+    /// let directory = find_objects(rt)?;
+    /// let now = SystemTime::now(rt)?;
+    /// let mut store = DirectoryStore::open_for_refresh(rt, &directory, LooseIds::All, now)?;
+    /// let is_same = store.refresh(LooseIds::All, SystemTime::now(rt)?)?;
+    /// ```
+    pub fn open_for_refresh(
         rt: &R,
         directory: &ObjectDirectory,
         loose: LooseIds,
-        now: Option<SystemTime>,
+        now: SystemTime,
     ) -> Result<DirectoryStore<R>, Error>
         ensures kind { IfOk result (λ store. store.directory.kind ≡ directory.now.kind) }
         ensures listed { IfOk result (λ store. store.loose.which ≡ loose) }
         ensures place { IfOk result (λ store. place_of store.directory ≡ place_of directory.now) }
         ensures answers { IfOk result (λ store. R.answers store.rt ≡ R.answers rt.now) }
+        ensures reasons { IfOk result (λ store. ∥ IfKnown (λ at. AreSkipped at store.directory
+            (map index_path store.packs.items) store.skipped.items) (R.answers store.rt) ∥₁) }
+        ensures objects { IfOk result (λ store. store.skipped.items ≡ [] → IfKnown (λ at.
+            HasAllOf at store.loose.which store.directory
+            (⟦<DirectoryStore<R> as Store>⟧.view store)) (R.answers store.rt)) }
+    {
+        DirectoryStore::open_at(rt, directory, loose, Some(now), None)
+    }
+
+    // Opens the store. If the time before is given, alternates and packs can be compared later, and
+    // if it is given a second time, loose objects can, too, for which each fan-out directory that
+    // is listed is looked at.
+    fn open_at(
+        rt: &R,
+        directory: &ObjectDirectory,
+        loose: LooseIds,
+        now: Option<SystemTime>,
+        loose_now: Option<SystemTime>,
+    ) -> Result<DirectoryStore<R>, Error>
+        ensures kind { IfOk result (λ store. store.directory.kind ≡ directory.now.kind) }
+        ensures listed { IfOk result (λ store. store.loose.which ≡ loose) }
+        ensures place { IfOk result (λ store. place_of store.directory ≡ place_of directory.now) }
+        ensures answers { IfOk result (λ store. R.answers store.rt ≡ R.answers rt.now) }
+        ensures reasons { IfOk result (λ store. ∥ IfKnown (λ at. AreSkipped at store.directory
+            (map index_path store.packs.items) store.skipped.items) (R.answers store.rt) ∥₁) }
     {
         for _ in 1..MAX_TRIES {
-            let opened = DirectoryStore::read(rt, directory, loose, now);
+            let opened = DirectoryStore::read(rt, directory, loose, now, loose_now);
             if !matches!(&opened, Err(error) if error.is_change()) {
                 return opened;
             }
         }
-        DirectoryStore::read(rt, directory, loose, now)
+        DirectoryStore::read(rt, directory, loose, now, loose_now)
     }
 
     // Reads the store once.
@@ -123,11 +164,14 @@ impl<R: StoreFiles> DirectoryStore<R> {
         directory: &ObjectDirectory,
         loose: LooseIds,
         now: Option<SystemTime>,
+        loose_now: Option<SystemTime>,
     ) -> Result<DirectoryStore<R>, Error>
         ensures kind { IfOk result (λ store. store.directory.kind ≡ directory.now.kind) }
         ensures listed { IfOk result (λ store. store.loose.which ≡ loose) }
         ensures place { IfOk result (λ store. place_of store.directory ≡ place_of directory.now) }
         ensures answers { IfOk result (λ store. R.answers store.rt ≡ R.answers rt.now) }
+        ensures reasons { IfOk result (λ store. ∥ IfKnown (λ at. AreSkipped at store.directory
+            (map index_path store.packs.items) store.skipped.items) (R.answers store.rt) ∥₁) }
         ensures settled { IfOk result (λ store. store.is_settled ≡ true
             → (store.skipped.items ≡ []) × AreSettled now store.pack_directories.states.items) }
     {
@@ -140,10 +184,11 @@ impl<R: StoreFiles> DirectoryStore<R> {
             directory.kind,
             loose,
             now,
+            loose_now,
         )?;
         // An alternate that was added meanwhile may hold objects that had left this directory
         // before it was listed.
-        if !directories.are_unchanged(rt, directory)? {
+        if !directories.are_unchanged(rt) {
             return Err(Error::changed(rt.alloc(), &directory.path));
         }
         let opened = open_indexes(rt, &listed.paths, directory.kind)?;
@@ -169,20 +214,23 @@ impl<R: StoreFiles> DirectoryStore<R> {
     /// whether it is what it was. `now` is the time before the call, by the clock of the file
     /// system.
     ///
-    /// What is unchanged is not read again: a list of alternates is read, and each directory of
-    /// packs and fan-out directory that is asked for is looked at. If only fan-out directories have
+    /// What is unchanged is not read again: each list of alternates, alternate, directory of packs
+    /// and fan-out directory that is asked for is looked at. If only fan-out directories have
     /// changed, these are listed. Those that were asked for before are kept.
     ///
-    /// What was changed less than 20 ms before it was read is read again, and so is what
-    /// [`DirectoryStore::open`] has read, and a store of which something is skipped: see
-    /// [`FileState::is_settled`](repositories::FileState::is_settled). The errors are those of
-    /// `open`, after which no pack index may be left. Then [`DirectoryStore::skipped`] says that
-    /// the store has changed, and the next call reads it again.
+    /// What was changed less than 20 ms before it was read is read again: see
+    /// [`FileState::is_settled`](repositories::FileState::is_settled). So is a store of which
+    /// something is skipped, or in which a pack index lacks its pack, all that
+    /// [`DirectoryStore::open`] has read, and the fan-out directories that
+    /// [`DirectoryStore::open_for_refresh`] has read. The errors are those of `open`, after which
+    /// no pack index may be left. Then [`DirectoryStore::skipped`] says that the store has changed,
+    /// and the next call reads it again.
     ///
     /// ```
-    /// let directory = find_objects(rt)?;
-    /// let mut store = DirectoryStore::open(rt, &directory, LooseIds::WithFirstByte(0x4b))?;
-    /// let is_same = store.refresh(LooseIds::WithFirstByte(0x4b), SystemTime::now(rt)?)?;
+    /// let (directory, loose) = (find_objects(rt)?, LooseIds::WithFirstByte(0x4b));
+    /// let now = SystemTime::now(rt)?;
+    /// let mut store = DirectoryStore::open_for_refresh(rt, &directory, loose, now)?;
+    /// let is_same = store.refresh(loose, SystemTime::now(rt)?)?;
     /// ```
     pub fn refresh(&mut self, loose: LooseIds, now: SystemTime) -> Result<bool, Error>
         ensures kind { self.new.directory.kind ≡ self.old.directory.kind }
@@ -204,7 +252,8 @@ impl<R: StoreFiles> DirectoryStore<R> {
         }
         // Its files are closed before as many are opened. If that fails, the next call opens them.
         self.close()?;
-        *self = DirectoryStore::open_at(&self.rt, &self.directory, loose, Some(now))?;
+        let now = Some(now);
+        *self = DirectoryStore::open_at(&self.rt, &self.directory, loose, now, now)?;
         Ok(false)
     }
 
@@ -213,6 +262,8 @@ impl<R: StoreFiles> DirectoryStore<R> {
         ensures directory { self.new.directory ≡ self.old.directory }
         ensures rt { self.new.rt ≡ self.old.rt }
         ensures settled { OnOk result (self.new.is_settled ≡ false) }
+        ensures closed { OnOk result (self.new.indexes.items ≡ []) }
+        ensures told { OnOk result (vec_len self.new.skipped ≡ 1) }
         ensures left { IfErr result (λ _. self.new.indexes.items ≡ self.old.indexes.items) }
     {
         let mut skipped = Vec::new(self.rt.alloc());
@@ -224,7 +275,7 @@ impl<R: StoreFiles> DirectoryStore<R> {
         Ok(())
     }
 
-    // The same, but for a change of packs or alternates, which is an error.
+    // The same, except that a change of packs or alternates is an error.
     fn look_again(&mut self, loose: LooseIds, now: SystemTime) -> Result<bool, Error>
         ensures directory { self.new.directory ≡ self.old.directory }
         ensures rt { self.new.rt ≡ self.old.rt }
@@ -252,7 +303,7 @@ impl<R: StoreFiles> DirectoryStore<R> {
         ensures unsettled { self.now.is_settled ≡ false → IfErr result
             (IsChanged (string_bytes self.now.directory.path)) }
     {
-        if self.is_settled && self.directories.are_unchanged(&self.rt, &self.directory)? {
+        if self.is_settled && self.directories.are_unchanged(&self.rt) {
             self.pack_directories.expect_unchanged(&self.rt)
         } else {
             Err(Error::changed(self.rt.alloc(), &self.directory.path))
@@ -283,9 +334,10 @@ impl<R: StoreFiles> DirectoryStore<R> {
         Ok(listed)
     }
 
-    /// What was not read: alternates that are missing, are no directories, cannot be read or are
-    /// nested too deep, and pack indexes whose file names are not UTF-8 or whose headers are not
-    /// those of version 2 and of the kind. Each has its path, or that of its directory, and why.
+    /// What was not read: alternates that are missing, are no directories, cannot be reached, are
+    /// nested too deep or whose paths in a list are not UTF-8, and pack indexes whose file names
+    /// are not UTF-8 or whose headers, lengths or fan-out tables are not those of version 2 and of
+    /// the kind. Each has its path, or that of its directory or list, and why.
     ///
     /// ```
     /// let store = DirectoryStore::open(rt, &find_objects(rt)?, LooseIds::All)?;
@@ -298,6 +350,8 @@ impl<R: StoreFiles> DirectoryStore<R> {
         ensures objects { self.now.skipped.items ≡ [] → IfKnown (λ at. HasAllOf at
             self.now.loose.which self.now.directory (⟦<DirectoryStore<R> as Store>⟧.view self.now))
             (R.answers self.now.rt) }
+        ensures reasons { HaveReasons (R.answers self.now.rt) self.now.directory
+            (map index_path self.now.packs.items) self.now.skipped.items }
     {
         &self.skipped
     }
@@ -395,7 +449,8 @@ impl<R: StoreFiles> DirectoryStore<R> {
 // Within one tick of the file system's clock a directory may change twice and be in the same state.
 // An object is in a new pack before its loose file or its old pack is removed, and loose before its
 // pack is removed: so the packs are listed after the loose objects, and before them too, and none
-// may be gone after.
+// may be gone after. If each change of a directory of packs leaves another state, one list is
+// enough.
 fn list_store<R: Directories>(
     rt: &R,
     packs: &PackDirectories,
@@ -403,17 +458,21 @@ fn list_store<R: Directories>(
     kind: Kind,
     loose: LooseIds,
     now: Option<SystemTime>,
+    loose_now: Option<SystemTime>,
 ) -> Result<(PackIndexes, LooseObjects), Error>
     ensures kind { IfOk result (λ listed. listed.1.kind ≡ kind) }
     ensures which { IfOk result (λ listed. listed.1.which ≡ loose) }
     ensures packs { IfOk result (λ listed. IfKnown (λ at. ArePacks at
         (map string_bytes packs.now.paths.items) listed.0.paths.items) (R.answers rt.now)) }
+    ensures skipped { IfOk result (λ listed. IfKnown (λ at. vec_len listed.0.skipped
+        ≡ sum_by (λ path. unnamed_in at (string_bytes path)) packs.now.paths.items)
+        (R.answers rt.now)) }
     ensures loose { IfOk result (λ listed. IfKnown (λ at. AreLoose at kind loose
         (map string_bytes directories.now) listed.1.directories.items) (R.answers rt.now)) }
 {
     let before = packs.list(rt)?;
-    let loose = list_loose(rt, directories, kind, loose, now)?;
-    Ok((packs.list_again(rt, &before)?, loose))
+    let loose = list_loose(rt, directories, kind, loose, loose_now)?;
+    Ok((packs.list_again(rt, before, now)?, loose))
 }
 
 // Whether the packs are those that are there as long as their directories are unchanged: none is
@@ -464,10 +523,11 @@ impl<R: StoreFiles> Store for DirectoryStore<R> {
     type Source = R::Source;
 
     ghost use Rattle.directory_store.specs.Stores.{only_of};
+    ghost use Rattle.pack_index.specs.Lazy.{seen};
 
     ghost view = { λ store. record {
       kind = store.directory.kind;
-      packs = store.indexes.items;
+      packs = map seen store.indexes.items;
       paths = map index_path store.packs.items;
       loose = store.loose.table.ids;
       listed = only_of store.loose.which;

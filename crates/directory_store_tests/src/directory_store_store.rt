@@ -365,9 +365,8 @@ fn a_store_is_refreshed_for_other_loose_objects(rt: HostRuntime) -> Result<(), F
 
 // Which openings fail: the one of the look for other loose objects, after which the store is opened
 // again, and one of each kind while it is opened: of the directory of packs, of a fan-out
-// directory, of the directory of packs again, and of a pack index, also as one of few open files
-// and as the only one.
-const FAILING: [u8; 4] = [0b11, 0b101, 0b1001, 0b111_0001];
+// directory, and of a pack index, also as one of few open files and as the only one.
+const FAILING: [u8; 3] = [0b11, 0b101, 0b11_1001];
 
 // After a refresh that failed the next one finds the packs.
 fn expect_refreshed_after_failures<R: Files<File = File> + AllocGlobal + Clone + Drop>(
@@ -413,6 +412,52 @@ fn no_pack_is_lost_by_a_refresh_that_fails(rt: HostRuntime) -> Result<(), Fail> 
     drop(store);
     ended?;
     fs::remove_dir_all(&rt, "failed")?;
+    Ok(())
+}
+
+// How often directories are listed: those of packs once, as long as they are unchanged, and a
+// fan-out directory when the store is opened and when it is refreshed for the first time.
+fn expect_listed_once<R: Files<File = File> + AllocGlobal + Clone + Drop>(
+    rt: &(impl Abort + AllocGlobal),
+    store: &mut DirectoryStore<R>,
+    listed: &Cell<usize>,
+    now: SystemTime,
+) -> Result<(), Fail> {
+    expect!(rt; listed.get() == 2, listed.get());
+    expect_refreshed(rt, store, now, false, &[BOTH, LOOSE])?;
+    expect!(rt; listed.get() == 3, listed.get());
+    expect_refreshed(rt, store, now, true, &[BOTH, LOOSE])?;
+    expect!(rt; listed.get() == 3, listed.get());
+    Ok(())
+}
+
+#[test]
+fn packs_are_listed_once_to_be_refreshed(rt: HostRuntime) -> Result<(), Fail> {
+    make(
+        &rt,
+        &[
+            "once/objects/pack/pack-1.pack",
+            "once/objects/4b/ffffffffffffffffffffffffffffffffffffff",
+        ],
+        &[],
+        &[("once/objects/pack/pack-1.idx", &[BOTH])],
+    )?;
+    let (listed, reads, failing) = (Cell::new(0), Cell::new(AMPLE), Cell::new(0));
+    let moving = Moving {
+        rt: &rt,
+        moves: &[],
+        listed: &listed,
+        reads: &reads,
+        failing: &failing,
+    };
+    let directory = ObjectDirectory::at(&rt, "once/objects")?;
+    let now = SystemTime::now(&rt)?.checked_add(Duration::from_secs(60));
+    let now = now.expect(&rt, "no time");
+    let mut store = DirectoryStore::open_for_refresh(&moving, &directory, FRESH, now)?;
+    let ended = expect_listed_once(&rt, &mut store, &listed, now);
+    drop(store);
+    ended?;
+    fs::remove_dir_all(&rt, "once")?;
     Ok(())
 }
 

@@ -10,10 +10,10 @@ one_kind bytes short long = omega (arith, short.most, long.fits)
 
 pub of_sha256 : (bytes : List ℕ) (error : Error) → IsLaidOut Sha256 bytes → IsRefusal Sha256 bytes error
     → (¬ IsPackIndex Sha1 bytes) × IsFaultByTables bytes error
-of_sha256 bytes error laid_out (inl is) = absurd (one_kind bytes is.1.names.tables laid_out.1)
+of_sha256 bytes error laid_out (inl is) = absurd (one_kind bytes is.1.ids.tables laid_out.1)
 of_sha256 bytes error laid_out (inr is) = (is.0, inl (laid_out, is.1))
 
 pub of_sha1 : (bytes : List ℕ) (error : Error) → ¬ IsLaidOut Sha256 bytes → IsRefusal Sha1 bytes error
     → (¬ IsPackIndex Sha256 bytes) × IsFaultByTables bytes error
-of_sha1 bytes error other (inl is) = absurd (other (is.1.names.head, is.1.names.tables))
+of_sha1 bytes error other (inl is) = absurd (other (is.1.ids.head, is.1.ids.tables))
 of_sha1 bytes error other (inr is) = (is.0, inr (other, is.1))

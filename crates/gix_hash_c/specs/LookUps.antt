@@ -1,10 +1,10 @@
 -- What look-ups in a table of digests return.
 use Rattle.std.specs.Prelude.{[], ℕ, ◌<◌, ◌≡◌, ◌≤◌, ◌⊎◌, Bool, List, None, Option, Some, false, length, nat_lt, slice_index_or, take, true}
-use Rattle.id_lookup.specs.Words.{IsFirstUnsorted, IsRun, IsShortestName, IsSortedIds, Kind, Sha1, Sha256, hex_len_of, kind_digits, number_of}
+use Rattle.id_lookup.specs.Words.{IsFirstUnsorted, IsRun, IsShortestAbbreviation, IsSortedIds, Kind, Sha1, Sha256, hex_len_of, kind_digits, number_of}
 use Rattle.id_lookup.specs.declared.search.Run as found
-use Rattle.pack_index.specs.Format.{HasHead, HasOffset, HasTables, IsFault, IsPackIndex, IsRefusal, crc_in, digests_in, names_in, num_objects, offset_in}
+use Rattle.pack_index.specs.Format.{HasHead, HasOffset, HasTables, IsFault, IsPackIndex, IsRefusal, crc_in, digests_in, ids_in, num_objects, offset_in}
 use Rattle.pack_index.specs.declared.error.Error.{Error}
-use Rattle.pack_index.specs.declared.error.Error.TheVariants.{BadMagic, BadVersion, LongOutOfOrder, NamesFall, NoOffset, OffsetInHeader, OffsetTooHigh, OtherKind, SpareLong, TooShort, Version1, WrongChecksum, WrongCount, WrongLength}
+use Rattle.pack_index.specs.declared.error.Error.TheVariants.{BadMagic, BadVersion, LongOutOfOrder, IdsFall, NoOffset, OffsetInHeader, OffsetTooHigh, OtherKind, SpareLong, TooShort, Version1, WrongChecksum, WrongCount, WrongLength}
 use Rattle.gix_hash_c.specs.Codes.{BAD_KIND, BAD_LENGTH, NOT_UNIQUE, OK, OUT_OF_RANGE, PREFIX_TOO_LONG, UNSORTED}
 use Rattle.gix_hash_c.specs.Face.{HoldsId}
 use Rattle.gix_hash_c.specs.declared.ids.Id.{Id}
@@ -49,7 +49,7 @@ cause_number Version1 = 17
 cause_number BadMagic = 18
 cause_number (BadVersion version) = 19
 cause_number WrongLength = 20
-cause_number (NamesFall at) = 21
+cause_number (IdsFall at) = 21
 cause_number (WrongCount byte) = 22
 cause_number (NoOffset at) = 23
 cause_number (LongOutOfOrder at) = 24
@@ -62,7 +62,7 @@ cause_number (OtherKind other) = 29
 -- and its detail, if it has one
 abbrev pub detail_of : Error → ℕ → ℕ
 detail_of (BadVersion version) old = version
-detail_of (NamesFall at) old = at
+detail_of (IdsFall at) old = at
 detail_of (WrongCount byte) old = byte
 detail_of (NoOffset at) old = at
 detail_of (LongOutOfOrder at) old = at
@@ -101,18 +101,18 @@ abbrev pub IsTablesFault : Kind → List ℕ → ℕ → Type 0
 IsTablesFault kind bytes code =
     (e : Error) × IsFault kind bytes e × (¬ IsLaidOut kind bytes) × (code ≡ cause_number e)
 
--- how many names there are
+-- how many ids there are
 abbrev pub LenAnswer : Option Kind → List ℕ → ℕ → ℕ → ℕ → Type 0
 LenAnswer None bytes code old new = (code ≡ BAD_KIND) × (new ≡ old)
 LenAnswer (Some kind) bytes code old new =
-    ((code ≡ OK) × IsLaidOut kind bytes × (new ≡ length (names_in kind bytes)))
+    ((code ≡ OK) × IsLaidOut kind bytes × (new ≡ length (ids_in kind bytes)))
     ⊎ ((new ≡ old) × IsTablesFault kind bytes code)
 
 -- what the tables contain at a position
 pub record IsEntry (kind : Kind) (bytes : List ℕ) (at : ℕ) (entry : Entry) : Type 0 where
   pub offset : entry.offset ≡ offset_in kind bytes at
   pub crc : entry.crc ≡ crc_in kind bytes at
-  pub id : HoldsId (kind_digits kind (slice_index_or (names_in kind bytes) at [])) entry.id
+  pub id : HoldsId (kind_digits kind (slice_index_or (ids_in kind bytes) at [])) entry.id
 
 -- why there is none
 abbrev pub IsNoEntry : Kind → List ℕ → ℕ → ℕ → Type 0
@@ -133,10 +133,10 @@ IsNoObject kind bytes at code =
     ((code ≡ OUT_OF_RANGE) × IsLaidOut kind bytes × (num_objects bytes ≤ at)) ⊎ IsTablesFault kind bytes code
 
 -- the id of the object at a position
-abbrev pub NameAnswer : Option Kind → List ℕ → ℕ → ℕ → Id → Id → Type 0
-NameAnswer None bytes at code old new = (code ≡ BAD_KIND) × (new ≡ old)
-NameAnswer (Some kind) bytes at code old new =
-    ((code ≡ OK) × IsLaidOut kind bytes × (at < num_objects bytes) × HoldsId (kind_digits kind (slice_index_or (names_in kind bytes) at [])) new)
+abbrev pub IdAnswer : Option Kind → List ℕ → ℕ → ℕ → Id → Id → Type 0
+IdAnswer None bytes at code old new = (code ≡ BAD_KIND) × (new ≡ old)
+IdAnswer (Some kind) bytes at code old new =
+    ((code ≡ OK) × IsLaidOut kind bytes × (at < num_objects bytes) × HoldsId (kind_digits kind (slice_index_or (ids_in kind bytes) at [])) new)
     ⊎ ((new ≡ old) × IsNoObject kind bytes at code)
 
 -- the run of a prefix
@@ -145,19 +145,19 @@ PackFindAnswer None bytes prefix code old new = (code ≡ BAD_KIND) × (new ≡ 
 PackFindAnswer (Some kind) bytes None code old new = (code ≡ BAD_LENGTH) × (new ≡ old)
 PackFindAnswer (Some kind) bytes (Some digits) code old new =
     ((code ≡ PREFIX_TOO_LONG) × (hex_len_of kind < length digits) × (new ≡ old))
-    ⊎ ((length digits ≤ hex_len_of kind) × (((code ≡ OK) × IsLaidOut kind bytes × IsRunIfSorted digits (names_in kind bytes) new)
+    ⊎ ((length digits ≤ hex_len_of kind) × (((code ≡ OK) × IsLaidOut kind bytes × IsRunIfSorted digits (ids_in kind bytes) new)
     ⊎ ((new ≡ old) × IsTablesFault kind bytes code)))
 
 -- as many first digits are the abbreviation of the object at a position, if the ids are sorted
 abbrev pub IsShortest : Kind → List ℕ → ℕ → ℕ → Type 0
 IsShortest kind bytes at hex_len =
-    IsSortedIds (names_in kind bytes) → IsShortestName (names_in kind bytes) at (take hex_len (slice_index_or (names_in kind bytes) at []))
+    IsSortedIds (ids_in kind bytes) → IsShortestAbbreviation (ids_in kind bytes) at (take hex_len (slice_index_or (ids_in kind bytes) at []))
 
 -- why there is none
-abbrev pub IsNameless : Kind → List ℕ → ℕ → ℕ → Type 0
-IsNameless kind bytes at code =
+abbrev pub HasNoAbbreviation : Kind → List ℕ → ℕ → ℕ → Type 0
+HasNoAbbreviation kind bytes at code =
     ((code ≡ NOT_UNIQUE) × IsLaidOut kind bytes × (at < num_objects bytes)
-    × (IsSortedIds (names_in kind bytes) → (name : List ℕ) → ¬ IsShortestName (names_in kind bytes) at name))
+    × (IsSortedIds (ids_in kind bytes) → (name : List ℕ) → ¬ IsShortestAbbreviation (ids_in kind bytes) at name))
     ⊎ IsNoObject kind bytes at code
 
 -- the result of abbreviating
@@ -165,4 +165,4 @@ abbrev pub ShortestAnswer : Option Kind → List ℕ → ℕ → ℕ → ℕ →
 ShortestAnswer None bytes at code old new = (code ≡ BAD_KIND) × (new ≡ old)
 ShortestAnswer (Some kind) bytes at code old new =
     ((code ≡ OK) × IsLaidOut kind bytes × (at < num_objects bytes) × (4 ≤ new) × (new ≤ hex_len_of kind) × IsShortest kind bytes at new)
-    ⊎ ((new ≡ old) × IsNameless kind bytes at code)
+    ⊎ ((new ≡ old) × HasNoAbbreviation kind bytes at code)

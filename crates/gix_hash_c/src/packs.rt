@@ -2,10 +2,10 @@
 //! lengths of the tables again, and reads nothing outside of the bytes, whatever they are.
 
 ghost use Rattle.std.specs.Prelude.{◌≡◌, ◌<◌, ◌≤◌, [], IfErr, IfSome, IsNone, OnOk, ℕ, List, length, slice_index_or, slice_range, take};
-ghost use Rattle.id_lookup.specs.Words.{IsShortestName, IsSortedIds, hex_len_of, kind_digits};
-ghost use Rattle.pack_index.specs.Format.{HasHead, HasTables, crc_table_start, digests_in, names_start};
+ghost use Rattle.id_lookup.specs.Words.{IsShortestAbbreviation, IsSortedIds, hex_len_of, kind_digits};
+ghost use Rattle.pack_index.specs.Format.{HasHead, HasTables, crc_table_start, digests_in, ids_start};
 ghost use Rattle.gix_hash_c.specs.Face.{HoldsId, kind_of_number, prefix_in};
-ghost use Rattle.gix_hash_c.specs.LookUps.{CheckAnswer, EntryAnswer, IsTablesFault, LenAnswer, NameAnswer, PackFindAnswer, PackKindAnswer, ShortestAnswer, cause_number, detail_of};
+ghost use Rattle.gix_hash_c.specs.LookUps.{CheckAnswer, EntryAnswer, IsTablesFault, LenAnswer, IdAnswer, PackFindAnswer, PackKindAnswer, ShortestAnswer, cause_number, detail_of};
 
 use crate::codes::{
     BAD_KIND, BAD_LENGTH, BAD_MAGIC, BAD_VERSION, INDEX_TOO_SHORT, LONG_OUT_OF_ORDER, NAMES_FALL,
@@ -18,7 +18,7 @@ use crate::prefixes::{Prefix, prefix_of};
 use gix_hash::{Kind, ObjectId};
 use id_lookup::abbreviate_assuming_sorted;
 use pack_index::tables::{
-    NAMES_START, bucket_range, check_tables, crc_in, crc_table_start, has_offset, num_objects,
+    IDS_START, bucket_range, check_tables, crc_in, crc_table_start, has_offset, num_objects,
     offset_in,
 };
 use pack_index::{Error, File};
@@ -112,7 +112,7 @@ pub extern "C" fn gix_hash_pack_entry(kind: u32, bytes: &[u8], at: usize, entry:
     *entry = Entry {
         offset: offset_in(bytes, kind, at),
         crc: crc_in(bytes, kind, at),
-        id: name_at(kind, id_table(kind, bytes), at),
+        id: id_at(kind, id_table(kind, bytes), at),
     };
     OK
 }
@@ -120,7 +120,7 @@ pub extern "C" fn gix_hash_pack_entry(kind: u32, bytes: &[u8], at: usize, entry:
 /// The id of the object at a position. An error leaves `id` as it was.
 #[unsafe(no_mangle)]
 pub extern "C" fn gix_hash_pack_id(kind: u32, bytes: &[u8], at: usize, id: &mut Id) -> u32
-    ensures { NameAnswer (kind_of_number kind) bytes.now at result id.old id.new }
+    ensures { IdAnswer (kind_of_number kind) bytes.now at result id.old id.new }
 {
     let Some(kind) = kind_of(kind) else {
         return BAD_KIND;
@@ -131,7 +131,7 @@ pub extern "C" fn gix_hash_pack_id(kind: u32, bytes: &[u8], at: usize, id: &mut 
     if at >= num_objects(bytes) as usize {
         return OUT_OF_RANGE;
     }
-    *id = name_at(kind, id_table(kind, bytes), at);
+    *id = id_at(kind, id_table(kind, bytes), at);
     OK
 }
 
@@ -196,7 +196,7 @@ fn cause_of(error: Error) -> u32
         Error::BadMagic => BAD_MAGIC,
         Error::BadVersion(_) => BAD_VERSION,
         Error::WrongLength => WRONG_LENGTH,
-        Error::NamesFall(_) => NAMES_FALL,
+        Error::IdsFall(_) => NAMES_FALL,
         Error::WrongCount(_) => WRONG_COUNT,
         Error::NoOffset(_) => NO_OFFSET,
         Error::LongOutOfOrder(_) => LONG_OUT_OF_ORDER,
@@ -215,7 +215,7 @@ fn detail_of(error: Error, old: u64) -> u64
     match error {
         Error::BadVersion(version) => u64::from(version),
         Error::WrongCount(byte) => u64::from(byte),
-        Error::NamesFall(at)
+        Error::IdsFall(at)
         | Error::NoOffset(at)
         | Error::LongOutOfOrder(at)
         | Error::SpareLong(at)
@@ -242,16 +242,16 @@ fn tables(kind: Kind, bytes: &[u8]) -> Result<(), u32>
 // The bytes of the ids.
 fn id_table(kind: Kind, bytes: &[u8]) -> &[u8]
     requires { HasTables kind bytes.now }
-    ensures { result.now ≡ slice_range bytes.now names_start (crc_table_start kind bytes.now) }
+    ensures { result.now ≡ slice_range bytes.now ids_start (crc_table_start kind bytes.now) }
 {
-    &bytes[NAMES_START..crc_table_start(bytes, kind)]
+    &bytes[IDS_START..crc_table_start(bytes, kind)]
 }
 
 // A guess where the ids with the prefix are. The counts say which ids have its first byte, and
 // among these its next digits are taken as if the ids were spread evenly. The guess changes no
 // result.
 fn guess(bytes: &[u8], prefix: &gix_hash::Prefix) -> id_lookup::Run
-    requires { names_start ≤ length bytes.now }
+    requires { ids_start ≤ length bytes.now }
 {
     let first = prefix.first_byte();
     let other_digits = if prefix.hex_len() == 1 { 15 } else { 0 };
@@ -269,7 +269,7 @@ fn guess(bytes: &[u8], prefix: &gix_hash::Prefix) -> id_lookup::Run
 }
 
 // The id at a position of a table.
-fn name_at(kind: Kind, table: &[u8], at: usize) -> Id
+fn id_at(kind: Kind, table: &[u8], at: usize) -> Id
     requires { at < length (digests_in kind table.now) }
     ensures { HoldsId (kind_digits kind (slice_index_or (digests_in kind table.now) at [])) result }
 {
@@ -285,10 +285,10 @@ fn shortest_at(kind: Kind, table: &[u8], at: usize) -> Option<usize>
     ensures long { IfSome result (λ hex_len. 4 ≤ hex_len) }
     ensures in_range { IfSome result (λ hex_len. hex_len ≤ hex_len_of kind) }
     ensures name { IfSome result (λ hex_len. IsSortedIds (digests_in kind table.now)
-        → IsShortestName (digests_in kind table.now) at
+        → IsShortestAbbreviation (digests_in kind table.now) at
         (take hex_len (slice_index_or (digests_in kind table.now) at []))) }
     ensures none { IsNone result → IsSortedIds (digests_in kind table.now)
-        → (name : List ℕ) → ¬ IsShortestName (digests_in kind table.now) at name }
+        → (name : List ℕ) → ¬ IsShortestAbbreviation (digests_in kind table.now) at name }
 {
     let name = match kind {
         Kind::Sha1 => abbreviate_assuming_sorted::<[u8; 20]>(table.as_chunks().0, at),

@@ -12,7 +12,7 @@ pub mod Indexes
 mod Kept
 mod Least
 pub mod Matched
-pub mod NamesInPart
+pub mod AbbreviationsInPart
 mod Neighbours
 mod OneKind
 mod Ordered

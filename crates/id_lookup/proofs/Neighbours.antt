@@ -2,7 +2,7 @@
 use Rattle.gix_hash.proofs.Std.{◌≡◌, ◌≢◌, ℕ, zero, suc, ◌+◌, ◌-◌, ◌<◌, ◌≤◌, true, max, List, [], length, get_or, take, nat_eq, inl, inr, sym, ap, ◌∙◌, arith, length-take, length-take-le, take-take, starts_with, cases_lt, false≢true}
 use Rattle.gix_hash.specs.Words.{hex_len_of}
 use Rattle.gix_hash.specs.declared.Kind.{Kind}
-use Rattle.id_lookup.specs.Indexes.{IsIndex, IsShortestNameFrom, IsUniqueLen, common_at}
+use Rattle.id_lookup.specs.Indexes.{IsIndex, IsShortestAbbreviationFrom, IsUniqueLen, common_at}
 use Rattle.id_lookup.proofs.CommonDigits.{common-between, common-differ, common-symm, begins-common, begins-apart}
 use Rattle.id_lookup.specs.Runs.{IsSortedIds}
 use Rattle.id_lookup.proofs.Indexes.{index-pairs}
@@ -37,7 +37,7 @@ module _ (ids : List (List ℕ)) (sorted : IsSortedIds ids) where
 
 -- so the larger of them and `fewest` is the length of the abbreviation
 pub shortest : (ids : List (List ℕ)) (fewest at unique len : ℕ) (name : List ℕ) → IsUniqueLen ids at unique → len ≡ max unique fewest
-    → len ≤ length (get_or ids at []) → name ≡ take len (get_or ids at []) → IsShortestNameFrom fewest ids at name
+    → len ≤ length (get_or ids at []) → name ≡ take len (get_or ids at []) → IsShortestAbbreviationFrom fewest ids at name
 shortest ids fewest at unique len name is_unique is enough name_is =
     let id = get_or ids at [] in
     let len_of : length name ≡ len = ap length name_is ∙ length-take-le len id enough in
@@ -58,7 +58,7 @@ unique_within ids at zero most is_unique apart = omega arith
 unique_within ids at (suc n) most is_unique apart = let r = is_unique.reached (omega arith) in omega (arith, r.3, apart r.0 r.1 r.2)
 
 -- and if the id has fewer digits, it has none
-module _ (ids : List (List ℕ)) (fewest at : ℕ) (name : List ℕ) (short : IsShortestNameFrom fewest ids at name) where
+module _ (ids : List (List ℕ)) (fewest at : ℕ) (name : List ℕ) (short : IsShortestAbbreviationFrom fewest ids at name) where
   within : length name ≤ length (get_or ids at [])
   within = omega (arith, ap length short.first, length-take (length name) (get_or ids at []))
 

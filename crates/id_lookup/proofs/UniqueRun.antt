@@ -2,7 +2,7 @@
 use Rattle.gix_hash.proofs.Std.{◌≡◌, ◌≢◌, ℕ, ◌+◌, ◌-◌, ◌<◌, ◌≤◌, true, false, List, [], length, get_or, inl, inr, refl, sym, ◌∙◌, arith, bytes_decides, cases_eq, false≢true}
 use Rattle.gix_hash.specs.Words.{KindDigits}
 use Rattle.id_lookup.specs.Runs.{IsRun, IsSortedIds, begins_with, bound_of}
-use Rattle.id_lookup.specs.Indexes.{IsShortestNameFrom}
+use Rattle.id_lookup.specs.Indexes.{IsShortestAbbreviationFrom}
 use Rattle.id_lookup.specs.declared.search.Bound.TheVariants.{Start, End}
 use Rattle.id_lookup.proofs.Placed.{run_is}
 use Rattle.id_lookup.proofs.Spelled.{starts_with-spelling}
@@ -26,7 +26,7 @@ unique_run prefix ids at sorted inside begins alone =
 
 -- the run of an abbreviation is its id
 pub name_run : (fewest : ℕ) (ids : List (List ℕ)) (at : ℕ) (prefix : KindDigits) → IsSortedIds ids → at < length ids
-    → IsShortestNameFrom fewest ids at prefix.digits → IsRun prefix ids (record { start = at; end = at + 1 })
+    → IsShortestAbbreviationFrom fewest ids at prefix.digits → IsRun prefix ids (record { start = at; end = at + 1 })
 name_run fewest ids at prefix sorted inside name =
     unique_run prefix ids at sorted inside
     (starts_with-spelling (get_or ids at []) prefix.digits ∙ (bytes_decides prefix.digits _).1 name.first)

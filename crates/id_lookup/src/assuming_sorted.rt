@@ -4,11 +4,11 @@
 ghost use Rattle.std.specs.Prelude.{◌≡◌, ◌<◌, ◌≤◌, ℕ, [], List, IfSome, IsNone, length, map, nat_lt, slice_index_or, take};
 ghost use Rattle.gix_hash.specs.Words.{hex_len_of};
 ghost use Rattle.id_lookup.specs.Runs.{IsRun, IsSortedIds, bound_of, least_hex_len};
-ghost use Rattle.id_lookup.specs.Indexes.{IsShortestName};
+ghost use Rattle.id_lookup.specs.Indexes.{IsShortestAbbreviation};
 
+use crate::abbreviations::shortest_abbreviation;
 use crate::ids::{Id, id_at};
 use crate::search::{Bound, Run};
-use crate::short_names::shortest_name;
 use gix_hash::Prefix;
 
 /// The run of the members that begin with a prefix, by binary search of a list that is assumed to
@@ -191,9 +191,9 @@ pub fn abbreviate_assuming_sorted<I: Id>(ids: &[I], at: usize) -> Option<Prefix>
         ≡ take (length name.digits) (slice_index_or (map I.digits ids.now) at [])) }
     ensures long { IfSome result (λ name. 4 ≤ length name.digits) }
     ensures name { IfSome result (λ name. IsSortedIds (map I.digits ids.now)
-        → IsShortestName (map I.digits ids.now) at name.digits) }
+        → IsShortestAbbreviation (map I.digits ids.now) at name.digits) }
     ensures none { IsNone result → IsSortedIds (map I.digits ids.now) → (name : List ℕ)
-        → ¬ IsShortestName (map I.digits ids.now) at name }
+        → ¬ IsShortestAbbreviation (map I.digits ids.now) at name }
 {
-    shortest_name(ids, at, Prefix::MIN_HEX_LEN)
+    shortest_abbreviation(ids, at, Prefix::MIN_HEX_LEN)
 }

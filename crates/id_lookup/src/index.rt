@@ -6,13 +6,13 @@ ghost use Rattle.std.specs.Ordering.{nat_cmp};
 ghost use Rattle.std.specs.declared.cmp.Ordering.{Ordering};
 ghost use Rattle.gix_hash.specs.Words.{hex_len_of};
 ghost use Rattle.id_lookup.specs.Runs.{IsFanOut, IsRun, matches};
-ghost use Rattle.id_lookup.specs.Indexes.{IsAnswer, IsFirstIndexError, IsIndex, IsShortestName, IsShortestNameFrom};
+ghost use Rattle.id_lookup.specs.Indexes.{IsAnswer, IsFirstIndexError, IsIndex, IsShortestAbbreviation, IsShortestAbbreviationFrom};
 
+use crate::abbreviations::shortest_abbreviation;
 use crate::fan_out::FanOut;
 use crate::ids::{Id, id_at};
 use crate::probes::Probes;
 use crate::search::{Run, lookup_in};
-use crate::short_names::shortest_name;
 use gix_hash::{Kind, ObjectId, Prefix};
 use std::error::Error;
 use std::fmt;
@@ -165,7 +165,7 @@ impl<'a, I: Id> IdIndex<'a, I> {
     pub fn abbreviate(&self, at: usize) -> Prefix
         requires { at < length self.now.ids }
         ensures kind { result.kind ≡ self.now.kind }
-        ensures name { IsShortestName self.now.ids at result.digits }
+        ensures name { IsShortestAbbreviation self.now.ids at result.digits }
         ensures run { IsRun result self.now.ids (record { start = at; end = at + 1 }) }
     {
         self.abbreviate_from(at, Prefix::MIN_HEX_LEN)
@@ -179,7 +179,7 @@ impl<'a, I: Id> IdIndex<'a, I> {
         requires enough { 4 ≤ least }
         requires fits { least ≤ hex_len_of self.now.kind }
         ensures kind { result.kind ≡ self.now.kind }
-        ensures name { IsShortestNameFrom least self.now.ids at result.digits }
+        ensures name { IsShortestAbbreviationFrom least self.now.ids at result.digits }
         ensures run { IsRun result self.now.ids (record { start = at; end = at + 1 }) }
     {
         abbreviate_in(self.ids, self.kind, at, least)
@@ -206,9 +206,9 @@ pub fn abbreviate_in<I: Id>(ids: &[I], kind: Kind, at: usize, least: usize) -> P
     requires enough { 4 ≤ least }
     requires fits { least ≤ hex_len_of kind }
     ensures kind { result.kind ≡ kind }
-    ensures name { IsShortestNameFrom least (map I.digits ids.now) at result.digits }
+    ensures name { IsShortestAbbreviationFrom least (map I.digits ids.now) at result.digits }
 {
-    shortest_name(ids, at, least).unwrap()
+    shortest_abbreviation(ids, at, least).unwrap()
 }
 
 // Whether the id at a position is above the previous one, if there is one.

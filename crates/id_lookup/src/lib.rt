@@ -12,6 +12,7 @@
 //! and [`IdIndex::abbreviate`] gives the abbreviation of each id, its shortest unique prefix.
 #![tactic(auto)]
 
+mod abbreviations;
 mod assuming_sorted;
 mod fan_out;
 mod ids;
@@ -20,7 +21,6 @@ pub mod laws;
 mod part_laws;
 mod probes;
 mod search;
-mod short_names;
 mod sorted;
 mod sorting;
 mod unique;

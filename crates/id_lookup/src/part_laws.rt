@@ -5,7 +5,7 @@ ghost use Rattle.std.specs.List.{range_with_len, starts_with};
 ghost use Rattle.gix_hash.specs.Words.{AreIdDigits, first_byte_of};
 ghost use Rattle.gix_hash.specs.declared.kind.Kind as kinds;
 ghost use Rattle.id_lookup.specs.Runs.{IsSortedIds, is_below, is_up_to, matches};
-ghost use Rattle.id_lookup.specs.Indexes.{IsIndex, IsIndexOf, IsShortestNameFrom, part_of};
+ghost use Rattle.id_lookup.specs.Indexes.{IsIndex, IsIndexOf, IsShortestAbbreviationFrom, part_of};
 
 /// Filtering ids and then sorting them gives the same as sorting and then filtering. The ids that
 /// begin with a prefix of 2 digits or more are found in the part of its first byte, and this part
@@ -28,8 +28,8 @@ pub fn parts()
         → p id ≡ true)
         → at < length (filter p whole) → position < length whole
         → slice_index_or whole position [] ≡ slice_index_or (filter p whole) at []
-        → IsShortestNameFrom least (filter p whole) at name
-        → IsShortestNameFrom least whole position name }
+        → IsShortestAbbreviationFrom least (filter p whole) at name
+        → IsShortestAbbreviationFrom least whole position name }
 {}
 
 /// In a sorted list the ids with a first byte are a run, and the parts one after the other are the

@@ -6,12 +6,12 @@ ghost use Rattle.std.specs.Ordering.{nat_cmp};
 ghost use Rattle.std.specs.declared.cmp.Ordering.{Ordering};
 ghost use Rattle.gix_hash.specs.Words.{hex_len_of};
 ghost use Rattle.id_lookup.specs.Runs.{IsFirstUnsorted, IsRun, IsSortedIds, least_hex_len, matches};
-ghost use Rattle.id_lookup.specs.Indexes.{IsShortestNameFrom};
+ghost use Rattle.id_lookup.specs.Indexes.{IsShortestAbbreviationFrom};
 
+use crate::abbreviations::shortest_abbreviation;
 use crate::ids::{Id, id_at};
 use crate::probes::Probes;
 use crate::search::{Run, lookup};
-use crate::short_names::shortest_name;
 use gix_hash::{ObjectId, Prefix};
 use std::error::Error;
 use std::fmt;
@@ -132,13 +132,14 @@ impl<'a, I: Id> SortedIds<'a, I> {
         requires enough { 4 ≤ least }
         ensures kind { IfSome result (λ name. hex_len_of name.kind
             ≡ length (slice_index_or self.now at [])) }
-        ensures name { IfSome result (λ name. IsShortestNameFrom least self.now at name.digits) }
+        ensures name { IfSome result (λ name. IsShortestAbbreviationFrom least self.now at
+            name.digits) }
         ensures run { IfSome result (λ name. IsRun name self.now
             (record { start = at; end = at + 1 })) }
         ensures none { IsNone result → (name : List ℕ)
-            → ¬ IsShortestNameFrom least self.now at name }
+            → ¬ IsShortestAbbreviationFrom least self.now at name }
     {
-        shortest_name(self.ids, at, least)
+        shortest_abbreviation(self.ids, at, least)
     }
 
     /// The ids, in order.

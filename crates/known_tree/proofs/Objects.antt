@@ -12,18 +12,15 @@ use Rattle.gix_hash.specs.declared.Kind.TheVariants.{Sha1}
 use Rattle.gix_hash.proofs.SpellingLaws.{spelling-injective}
 use Rattle.id_lookup.specs.Words.{IsIndexOf}
 use Rattle.id_lookup.proofs.Filters.{contains_kept}
-use Rattle.pack_index.specs.Format.{HasCounts, names_in}
+use Rattle.pack_index.specs.Format.{HasCounts, ids_in}
 use Rattle.repositories.specs.Answers.{Answers}
 use Rattle.repositories.specs.Walks.{visit_below, with_alternates}
 use Rattle.directory_store.specs.Loose.{HasLoose, bytes_asked}
 use Rattle.directory_store.specs.Opened.{AreObjects, HasIndex, HasObject, HaveCounts}
 use Rattle.directory_store.specs.Packs.{if_listed, is_index_name, packs_of, split_names}
 use Rattle.directory_store.specs.declared.loose.LooseIds.TheVariants as loose_ids
+use Rattle.directory_store.proofs.AllBytes.{only_one}
 use Rattle.known_tree.specs.Trees.{answers_in, loose_digits, loose_name, names_at}
-
--- a list of one has nothing else
-only : {X : Type 0} (y x : X) → Contains (y ∷ []) x → x ≡ y
-only y x has = grind arith
 
 -- the names at a path
 abbrev listed : List ℕ → List (List ℕ)
@@ -56,7 +53,7 @@ module _ (index : List ℕ) where
   index_path path file =
       let name = file.stem ++ codes ".idx" in
       let ends : is_index_name name ≡ true = (ends_is Decides-eqb name (codes ".idx") _ refl).1 file.stem refl in
-      file.is_path ∙ ap (path_join (packs_of (codes "o"))) (only (codes "p.idx") name (contains_kept is_index_name (listed (codes "o/pack")) name file.is_there ends))
+      file.is_path ∙ ap (path_join (packs_of (codes "o"))) (only_one (codes "p.idx") name (contains_kept is_index_name (listed (codes "o/pack")) name file.is_there ends))
 
   the_loose : HasObject at Sha1 loose_ids.All (codes "o") loose_digits
   unfolding bytes_asked
@@ -74,31 +71,31 @@ module _ (index : List ℕ) where
   -- the fan-out table of its pack index is right
   pub counts : HasCounts Sha1 index → HaveCounts at Sha1 (codes "o" ∷ [])
   counts right directory path has file =
-      (index, ap at.bytes (index_path path (subst (λ d. HasIndex at d path) (only _ _ has) file)), right)
+      (index, ap at.bytes (index_path path (subst (λ d. HasIndex at d path) (only_one _ _ has) file)), right)
 
   -- its objects are those of the pack index, and the loose one
-  pub objects : (ids : List (List ℕ)) → IsIndexOf Sha1 (names_in Sha1 index ++ loose_digits ∷ []) ids → AreObjects at Sha1 loose_ids.All (codes "o" ∷ []) ids
+  pub objects : (ids : List (List ℕ)) → IsIndexOf Sha1 (ids_in Sha1 index ++ loose_digits ∷ []) ids → AreObjects at Sha1 loose_ids.All (codes "o" ∷ []) ids
   objects ids is = record {
     index = is.index;
     members = λ digits. (
       λ has. (
         codes "o",
         (0, omega arith, refl),
-        elim (Contains-append_cases (names_in Sha1 index) (loose_digits ∷ []) digits ((is.members digits).0 has)) [
+        elim (Contains-append_cases (ids_in Sha1 index) (loose_digits ∷ []) digits ((is.members digits).0 has)) [
           | inl packed ↦ inl (codes "o/pack/p.idx", index, the_index, refl, packed)
-          | inr loose ↦ subst (HasObject at Sha1 loose_ids.All (codes "o")) (sym (only _ _ loose)) the_loose
+          | inr loose ↦ subst (HasObject at Sha1 loose_ids.All (codes "o")) (sym (only_one _ _ loose)) the_loose
         ],
       ),
-      λ (directory, has, object). (is.members digits).1 (one_of digits (subst (λ d. HasObject at Sha1 loose_ids.All d digits) (only _ _ has) object)),
+      λ (directory, has, object). (is.members digits).1 (one_of digits (subst (λ d. HasObject at Sha1 loose_ids.All d digits) (only_one _ _ has) object)),
     );
   }
     where
-      one_of : (digits : List ℕ) → HasObject at Sha1 loose_ids.All (codes "o") digits → Contains (names_in Sha1 index ++ loose_digits ∷ []) digits
+      one_of : (digits : List ℕ) → HasObject at Sha1 loose_ids.All (codes "o") digits → Contains (ids_in Sha1 index ++ loose_digits ∷ []) digits
       one_of digits (inl (path, bytes, file, is, named)) =
           let same : Ok index ≡ Ok bytes = subst (λ p. at.bytes p ≡ Ok bytes) (index_path path file) is in
-          Contains-append_left (names_in Sha1 index) (loose_digits ∷ []) digits (subst (λ b. Contains (names_in Sha1 b) digits) (cc same) named)
+          Contains-append_left (ids_in Sha1 index) (loose_digits ∷ []) digits (subst (λ b. Contains (ids_in Sha1 b) digits) (cc same) named)
       one_of digits (inr (asked, loose)) =
-          Contains-append_right (names_in Sha1 index) (loose_digits ∷ []) digits (0, omega arith, sym (loose_is digits loose))
+          Contains-append_right (ids_in Sha1 index) (loose_digits ∷ []) digits (0, omega arith, sym (loose_is digits loose))
 
   -- it has no alternates, where the path is this one and the environment adds none
   pub here : (path : List ℕ) (given : List (String Global)) → path ≡ codes "o" → given ≡ [] → with_alternates path (map string_bytes given) at ≡ Some (codes "o" ∷ [], 0)

@@ -1,7 +1,7 @@
 use crate::known::answer_in_tree;
 use crate::tree::Tree;
 use gix_hash::Kind;
-use packtool_commands::Answers;
+use packtool_commands::Wanted;
 use std::test::Fail;
 use store_questions::{Ask, FOUND, Question, StoreRequest, buffered, flushed};
 use test_devices::ids::{ids_of, pack_index};
@@ -16,7 +16,7 @@ fn a_packed_object_beside_a_loose_one(rt: HostRuntime) -> Result<(), Fail> {
     };
     let request = StoreRequest {
         question: Question::Find,
-        ask: Ask::Prefix("4b8", Answers::Bare),
+        ask: Ask::Prefix("4b8", Wanted::Bare),
         least: 4,
         objects: None,
         kind: None,

@@ -6,7 +6,7 @@ use Rattle.std.specs.Option.{option_map, option_or}
 use Rattle.std.specs.Ordering.{is_lt, nat_cmp}
 use Rattle.id_lookup.specs.Words.{IsFirstIndexError, IsFirstUnsorted, IsIndex, IsSortedIds, Kind, KindDigits, hex_len_of, hex_letter, least_hex_len, letter_of, matches, prefix_read, prefix_read_in}
 use Rattle.gix_hash.specs.declared.prefix.from_hex.Error.{Error as PrefixError}
-use Rattle.streams.specs.Streams.{AppendsPart, lines_of, printed}
+use Rattle.streams.specs.Streams.{AppendsBeginning, lines_of, printed}
 use Rattle.id_lookup.specs.declared.index.IndexError.{IndexError}
 use Rattle.id_lookup.specs.declared.index.IndexError.TheVariants as index
 use Rattle.list_search.specs.Lists.{IsFirstBadLine, IsFirstRead, IsListOf, NoBadLineEnded, list_read}
@@ -172,7 +172,7 @@ Stops answer given error = OfAll given (λ text. answer text ≡ Err error)
 pub record IsFoundInPart (letter : ℕ → ℕ) (answer : Result (List (List ℕ)) SearchError) (old new : Option (List ℕ)) : Type 0 where
   pub ids : List (List ℕ)
   pub found : answer ≡ Ok ids
-  pub written : AppendsPart old new (printed letter ids)
+  pub written : AppendsBeginning old new (printed letter ids)
 
 -- the result is ids, whose number was returned and whose lines were written
 pub record IsFound (letter : ℕ → ℕ) (answer : Result (List (List ℕ)) SearchError) (old new : Option (List ℕ)) (count : ℕ) : Type 0 where

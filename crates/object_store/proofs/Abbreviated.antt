@@ -7,11 +7,11 @@ use Rattle.id_lookup.proofs.Filters.{contains_had, contains_kept, filter_within,
 use Rattle.id_lookup.proofs.SameMembers.{index-filter, one_position}
 use Rattle.id_lookup.proofs.Spelled.{starts_with-BeginsWith}
 use Rattle.object_store.specs.Several.{IsAbbreviated, IsAbbreviatedAs}
-use Rattle.object_store.specs.Stores.{AreIdsRead, AreMatches, IsAbbreviationOf, IsNameIn, StoreView}
-use Rattle.object_store.specs.declared.parts.Abbreviation.{Abbreviation}
-use Rattle.object_store.specs.declared.parts.Abbreviation.TheVariants.{Ambiguous, Missing, Named}
-use Rattle.object_store.specs.declared.parts.NamedId.{NamedId}
-use Rattle.object_store.proofs.Named.{begins_itself, name_in_read}
+use Rattle.object_store.specs.Stores.{AreIdsRead, AreMatches, IsAbbreviationOf, IsAbbreviationIn, StoreView}
+use Rattle.object_store.specs.declared.abbreviations.Abbreviation.{Abbreviation}
+use Rattle.object_store.specs.declared.abbreviations.Abbreviation.TheVariants.{Ambiguous, Missing, Unique}
+use Rattle.object_store.specs.declared.abbreviations.AbbreviatedId.{AbbreviatedId}
+use Rattle.object_store.proofs.AbbreviationsAmong.{begins_itself, abbreviation_in_read}
 use Rattle.object_store.proofs.Prefixes.{begins_whole}
 use Rattle.pack_index.proofs.Parts.{begins_less}
 
@@ -49,17 +49,17 @@ module _ (fewest : ℕ) (digits front : List ℕ) (is : front ≡ take fewest di
   front_byte enough two = sym (first_byte_of-begins digits front (omega (arith, size, enough, two)) begins_so)
 
 -- so the abbreviation is decided by the ids that begin with the first digits
-pub abbreviated : (fewest : ℕ) (view : StoreView) (digits front : List ℕ) (ids : List ObjectId) (abbreviation : Abbreviation) → front ≡ take fewest digits → 4 ≤ fewest
+pub is_abbreviated : (fewest : ℕ) (view : StoreView) (digits front : List ℕ) (ids : List ObjectId) (abbreviation : Abbreviation) → front ≡ take fewest digits → 4 ≤ fewest
     → 2 ≤ length digits → AreMatches view front ids → IsAbbreviatedAs fewest view.kind (map id_digits ids) (matches digits (map id_digits ids)) abbreviation
     → IsAbbreviated fewest view digits abbreviation
-abbreviated fewest view digits front ids abbreviation is enough two are at = record {
+is_abbreviated fewest view digits front ids abbreviation is enough two are at = record {
   read = are.read;
   ids_read = subst (λ b. AreIdsRead view b are.read) (front_byte fewest digits front is enough two) are.ids_read;
   found = matches digits (map id_digits ids);
   index = subst (λ (all : List (List ℕ)). IsIndexOf view.kind all (matches digits (map id_digits ids)))
       (filter_within (λ id. starts_with nat_eq id front) (λ id. starts_with nat_eq id digits) begins are.read)
       (index_of_passing view.kind (λ id. starts_with nat_eq id digits) (matches front are.read) (map id_digits ids) are.index);
-  name = by abbreviation at;
+  says = by abbreviation at;
 }
   where
     begins : (id : List ℕ) → starts_with nat_eq id digits ≡ true → starts_with nat_eq id front ≡ true
@@ -69,13 +69,13 @@ abbreviated fewest view digits front ids abbreviation is enough two are at = rec
         → IsAbbreviatedAs fewest view.kind are.read (matches digits (map id_digits ids)) a
     by Missing none = none
     by Ambiguous many = many
-    by (Named n) found = (
+    by (Unique n) found = (
       found.0,
-      name_in_read view.kind fewest are.read (map id_digits ids) front are.index (omega (arith, size fewest digits front is)) (id_digits n.id) n.name.digits found.1,
+      abbreviation_in_read view.kind fewest are.read (map id_digits ids) front are.index (omega (arith, size fewest digits front is)) (id_digits n.id) n.abbreviation.digits found.1,
       found.2,
     )
 
--- an id has its name as the only one that begins with all of its digits
+-- an id has its abbreviation as the only one that begins with all of its digits
 module _ (fewest : ℕ) (view : StoreView) (id : List ℕ) (long : length id ≡ hex_len_of view.kind) where
   abbrev IsLong : List ℕ → Type 0
   IsLong other = length other ≡ hex_len_of view.kind
@@ -107,18 +107,18 @@ module _ (fewest : ℕ) (view : StoreView) (id : List ℕ) (long : length id ≡
     is_only : (other : List ℕ) → found ≡ other ∷ [] → other ≡ id
     is_only other one = only other (subst (λ (xs : List (List ℕ)). Contains xs other) (sym one) (0, omega arith, refl))
 
-  pub name_missing : IsAbbreviated fewest view id Missing → IsAbbreviationOf fewest view id None
-  name_missing is = record { read = is.read; ids_read = is.ids_read; is = none_found is.read is.found is.index is.name }
+  pub abbreviation_missing : IsAbbreviated fewest view id Missing → IsAbbreviationOf fewest view id None
+  abbreviation_missing is = record { read = is.read; ids_read = is.ids_read; is = none_found is.read is.found is.index is.says }
 
-  pub name_ambiguous : IsAbbreviated fewest view id Ambiguous → IsAbbreviationOf fewest view id None
-  name_ambiguous is = absurd (not_many is.read is.found is.index is.name)
+  pub abbreviation_ambiguous : IsAbbreviated fewest view id Ambiguous → IsAbbreviationOf fewest view id None
+  abbreviation_ambiguous is = absurd (not_many is.read is.found is.index is.says)
 
-  pub name_named : (n : NamedId) → IsAbbreviated fewest view id (Named n) → IsAbbreviationOf fewest view id (Some n.name)
-  name_named n is = record {
+  pub abbreviation_unique : (n : AbbreviatedId) → IsAbbreviated fewest view id (Unique n) → IsAbbreviationOf fewest view id (Some n.abbreviation)
+  abbreviation_unique n is = record {
     read = is.read;
     ids_read = is.ids_read;
     is = (
-      subst (λ (x : List ℕ). IsNameIn fewest is.read x n.name.digits) (is_only is.read is.found is.index (id_digits n.id) is.name.0) is.name.1,
-      is.name.2.1,
+      subst (λ (x : List ℕ). IsAbbreviationIn fewest is.read x n.abbreviation.digits) (is_only is.read is.found is.index (id_digits n.id) is.says.0) is.says.1,
+      is.says.2.1,
     );
   }

@@ -1,10 +1,10 @@
 pub mod Zipped
 pub mod Held
 pub mod Located
-pub mod Named
+pub mod AbbreviationsAmong
 mod Abbreviated
 mod FirstMatches
-pub mod PartNames
+pub mod PartIds
 pub mod Whole
 pub mod WholeLocations
 pub mod LocationMembers

@@ -6,7 +6,7 @@ use Rattle.object_store.specs.Stores.{AreMatches, HaveBuckets, IsLocateFault, Is
 use Rattle.object_store.specs.Several.{IsLocated, IsLocationsFault, limited_to}
 use Rattle.object_store.proofs.Whole.{found_begins}
 use Rattle.object_store.specs.declared.error.Error.{Error}
-use Rattle.object_store.specs.declared.parts.LocatedId.{LocatedId}
+use Rattle.object_store.specs.declared.locations.LocatedId.{LocatedId}
 
 -- these are the first of the ids that begin with the digits
 module _ (view : StoreView) (digits : List ℕ) (limit : Option ℕ) (ids first : List ObjectId) (are : AreMatches view digits ids) (is : first ≡ limited_to limit ids) where

@@ -1,34 +1,21 @@
 -- Which locations an object has.
-use Rattle.gix_hash.proofs.Std.{◌≡◌, ℕ, zero, suc, ◌+◌, ◌<◌, inl, inr, Bool, true, false, cond, Option, None, Some, List, [], ◌∷◌, length, get_or, map, refl, sym, ap, ◌∙◌, subst, arith, ◌↔◌, option_map, bytes_eq, bytes_decides, Contains, list_any, position, false≢true, get_or-map, length-map, Contains-append_cases, Contains-append_left, Contains-append_right, none-some, same_Some}
-use Rattle.std.proofs.lemmas.List.Quantifiers.{position-Some}
-use Rattle.id_lookup.specs.Words.{Kind}
+use Rattle.gix_hash.proofs.Std.{◌≡◌, ℕ, zero, suc, ◌+◌, ◌<◌, inl, inr, Bool, true, false, cond, Option, None, Some, List, [], ◌∷◌, length, get_or, map, refl, sym, ap, ◌∙◌, subst, arith, ◌↔◌, bytes_eq, Contains, list_any, position, get_or-map, length-map, Contains-append_cases, Contains-append_left, Contains-append_right, none-some, same_Some}
+use Rattle.std.specs.Option.{option_and_then}
 use Rattle.object_store.specs.Stores.{in_packs, locations_of, offset_of}
-use Rattle.object_store.specs.declared.parts.Location.{Location}
-use Rattle.object_store.specs.declared.parts.Location.TheVariants.{Packed, Loose}
-use Rattle.object_store.proofs.Located.{offset_some}
+use Rattle.object_store.specs.declared.locations.Location.{Location}
+use Rattle.object_store.specs.declared.locations.Location.TheVariants.{Packed, Loose}
 use Rattle.object_store.proofs.LooseParts.{any_decides}
-use Rattle.pack_index.specs.Format.{IsFirstIndexOf, names_in, offset_in}
+use Rattle.pack_index.specs.Format.{IsFirstIndexOf}
+use Rattle.pack_index.specs.Lazy.{Tables}
+use Rattle.pack_index.proofs.LookedUp.{first_position, position_first}
 
--- the offset that is found is that of the first position of the name
-has_offset : (kind : Kind) (bytes id : List ℕ) (offset : ℕ) → offset_of kind bytes id ≡ Some offset
-    → (at : ℕ) × IsFirstIndexOf (names_in kind bytes) id at × (offset ≡ offset_in kind bytes at)
-has_offset kind bytes id offset found =
-    let names = names_in kind bytes in
-    let same : List ℕ → Bool = λ name. bytes_eq name id in
-    elim (position same names) as (λ o. position same names ≡ o → option_map (offset_in kind bytes) o ≡ Some offset
-    → (at : ℕ) × IsFirstIndexOf names id at × (offset ≡ offset_in kind bytes at)) [
+-- the offset that is found is that of the first position of the id
+has_offset : (tables : Tables) (id : List ℕ) (offset : ℕ) → offset_of id tables ≡ Some offset → (at : ℕ) × IsFirstIndexOf tables.ids id at × (tables.offset at ≡ Some offset)
+has_offset tables id offset = elim (position (λ name. bytes_eq name id) tables.ids) as (λ o. o ≡ position (λ name. bytes_eq name id) tables.ids → option_and_then tables.offset o ≡ Some offset
+    → (at : ℕ) × IsFirstIndexOf tables.ids id at × (tables.offset at ≡ Some offset)) [
       | None ↦ λ was none. absurd (none-some offset none)
-      | Some at ↦ λ was some.
-          let is = position-Some same names at [] was in (
-            at,
-            record {
-              in_range = is.0;
-              same = (bytes_decides (get_or names at []) id).0 is.1;
-              first = λ k low equal. false≢true (sym (is.2 k low) ∙ (bytes_decides (get_or names k []) id).1 equal);
-            },
-            sym (same_Some _ offset some),
-          )
-    ] refl found
+      | Some at ↦ λ was some. (at, position_first id tables.ids (Some at) was, some)
+    ] refl
 
 contains_one : {X : Type 0} (x y : X) → Contains (x ∷ []) y → x ≡ y
 contains_one x y (zero, low, is) = is
@@ -69,9 +56,9 @@ abbrev offset_in_pack : Location → ℕ
 offset_in_pack (Packed pack offset) = offset
 offset_in_pack Loose = 0
 
-module _ (kind : Kind) (id : List ℕ) (indexes loose_ids : List (List ℕ)) where
+module _ (id : List ℕ) (indexes : List Tables) (loose_ids : List (List ℕ)) where
   abbrev offsets : List (Option ℕ)
-  offsets = map (λ bytes. offset_of kind bytes id) indexes
+  offsets = map (offset_of id) indexes
 
   abbrev front : List Location
   front = in_packs 0 offsets
@@ -88,29 +75,30 @@ module _ (kind : Kind) (id : List ℕ) (indexes loose_ids : List (List ℕ)) whe
     | false ↦ λ (k, low, is). absurd (omega (arith, low))
   ]
 
-  pub packed_location : (pack offset : ℕ) → Contains (locations_of kind id indexes loose_ids) (Packed pack offset)
-      ↔ ((pack < length indexes) × (at : ℕ) × IsFirstIndexOf (names_in kind (get_or indexes pack [])) id at × (offset ≡ offset_in kind (get_or indexes pack []) at))
-  packed_location pack offset = (
+  pub packed_location : (pack offset : ℕ) (default : Tables) → Contains (locations_of id indexes loose_ids) (Packed pack offset)
+      ↔ ((pack < length indexes) × (at : ℕ) × IsFirstIndexOf (get_or indexes pack default).ids id at × ((get_or indexes pack default).offset at ≡ Some offset))
+  packed_location pack offset default = (
     λ has. elim (Contains-append_cases front last (Packed pack offset) has) [
       | inl packed ↦
           let is = packed_of 0 offsets (Packed pack offset) packed in
           let same : is.0 ≡ pack = omega (arith, ap pack_of is.4) in
-          let low : pack < length indexes = omega (arith, same, is.2, length-map indexes (λ bytes. offset_of kind bytes id)) in
-          let found : offset_of kind (get_or indexes pack []) id ≡ Some offset =
-          sym (get_or-map (λ bytes. offset_of kind bytes id) indexes pack [] None low) ∙ ap (λ n. get_or offsets n None) (sym same) ∙ is.3
+          let low : pack < length indexes = omega (arith, same, is.2, length-map indexes (offset_of id)) in
+          let found : offset_of id (get_or indexes pack default) ≡ Some offset =
+          sym (get_or-map (offset_of id) indexes pack default None low) ∙ ap (λ n. get_or offsets n None) (sym same) ∙ is.3
           ∙ ap (λ (location : Location). Some (offset_in_pack location)) is.4 in
-          let has = has_offset kind (get_or indexes pack []) id offset found in (low, has.0, has.1, has.2)
+          let has = has_offset (get_or indexes pack default) id offset found in (low, has.0, has.1, has.2)
       | inr loose ↦ let is = (in_last (Packed pack offset) loose).1 in cc
     ],
     λ is.
-        let found : offset_of kind (get_or indexes pack []) id ≡ Some offset = sym (offset_some kind (get_or indexes pack []) id is.1 offset is.2 is.3) in
-        let low : pack < length offsets = omega (arith, is.0, length-map indexes (λ bytes. offset_of kind bytes id)) in
-        let there : get_or offsets pack None ≡ Some offset = get_or-map (λ bytes. offset_of kind bytes id) indexes pack [] None is.0 ∙ found in
+        let found : offset_of id (get_or indexes pack default) ≡ Some offset =
+        ap (option_and_then (get_or indexes pack default).offset) (sym (first_position id (get_or indexes pack default).ids (Some is.1) is.2)) ∙ is.3 in
+        let low : pack < length offsets = omega (arith, is.0, length-map indexes (offset_of id)) in
+        let there : get_or offsets pack None ≡ Some offset = get_or-map (offset_of id) indexes pack default None is.0 ∙ found in
         let here : 0 + pack ≡ pack = omega arith in
         Contains-append_left front last (Packed pack offset) (subst (λ n. Contains front (Packed n offset)) here (has_packed 0 offsets pack offset low there)),
   )
 
-  pub loose_location : Contains (locations_of kind id indexes loose_ids) Loose ↔ Contains loose_ids id
+  pub loose_location : Contains (locations_of id indexes loose_ids) Loose ↔ Contains loose_ids id
   loose_location = (
     λ has. elim (Contains-append_cases front last Loose has) [
       | inl packed ↦ let is = (packed_of 0 offsets Loose packed).4 in cc

@@ -2,12 +2,12 @@
 use Rattle.std.specs.Prelude.{◌≡◌, ℕ, ◌<◌, ◌/◌, ◌%◌, ◌⊎◌, List, [], ◌∷◌, None, Option, Some, Vec, length, map, string_bytes, take, All, Contains}
 use Rattle.std.specs.List.{AllZip, sum_by}
 use Rattle.id_lookup.specs.Words.{IsIndexOf, Kind, KindDigits, ObjectId, first_byte_of, id_digits, matches}
-use Rattle.object_store.specs.Stores.{AreIdsRead, AreLocations, AreMatches, HaveMore, IsLocateFault, IsNameIn, IsOfKind, IsOfOne, IsStoreFault, StoreView}
+use Rattle.object_store.specs.Stores.{AreIdsRead, AreLocations, AreMatches, HaveMore, IsLocateFault, IsAbbreviationIn, IsOfKind, IsOfOne, IsStoreFault, StoreView}
 use Rattle.object_store.specs.declared.error.Error.{Error}
-use Rattle.object_store.specs.declared.parts.LocatedId.{LocatedId}
-use Rattle.object_store.specs.declared.parts.NamedId.{NamedId}
-use Rattle.object_store.specs.declared.parts.Abbreviation.{Abbreviation}
-use Rattle.object_store.specs.declared.parts.Abbreviation.TheVariants.{Missing, Ambiguous, Named}
+use Rattle.object_store.specs.declared.locations.LocatedId.{LocatedId}
+use Rattle.object_store.specs.declared.abbreviations.AbbreviatedId.{AbbreviatedId}
+use Rattle.object_store.specs.declared.abbreviations.Abbreviation.{Abbreviation}
+use Rattle.object_store.specs.declared.abbreviations.Abbreviation.TheVariants.{Missing, Ambiguous, Unique}
 
 -- the id that is located has all locations of its object, and the paths of the files that the object has as a loose object
 pub record IsLocated {A : Type 0} (view : StoreView) (loose_paths : List ℕ → List (List ℕ)) (located : LocatedId A) : Type 0 where
@@ -56,12 +56,12 @@ HaveMoreLocations A limit view loose_paths most prefixes =
 abbrev pub IsLocationsFaultOfOne : Option ℕ → StoreView → List KindDigits → Error → Type 0
 IsLocationsFaultOfOne limit view prefixes error = IsOfOne (IsLocationsFault limit view) prefixes error
 
--- the abbreviation says whether none was found, or more than one, or has the only one that was found, with its name among the ids, both of the kind
+-- the abbreviation says whether none was found, or more than one, or has the only one that was found, with its abbreviation among the ids, both of the kind
 abbrev pub IsAbbreviatedAs : ℕ → Kind → List (List ℕ) → List (List ℕ) → Abbreviation → Type 0
 IsAbbreviatedAs fewest kind ids found Missing = found ≡ []
 IsAbbreviatedAs fewest kind ids found Ambiguous = 1 < length found
-IsAbbreviatedAs fewest kind ids found (Named named) =
-    (found ≡ id_digits named.id ∷ []) × IsNameIn fewest ids (id_digits named.id) named.name.digits × IsOfKind kind named
+IsAbbreviatedAs fewest kind ids found (Unique abbreviated) =
+    (found ≡ id_digits abbreviated.id ∷ []) × IsAbbreviationIn fewest ids (id_digits abbreviated.id) abbreviated.abbreviation.digits × IsOfKind kind abbreviated
 
 -- the abbreviation says so of the ids that were read, where `found` has those that begin with the digits, each once
 pub record IsAbbreviated (fewest : ℕ) (view : StoreView) (digits : List ℕ) (abbreviation : Abbreviation) : Type 0 where
@@ -69,21 +69,21 @@ pub record IsAbbreviated (fewest : ℕ) (view : StoreView) (digits : List ℕ) (
   pub ids_read : AreIdsRead view (first_byte_of digits) read
   pub found : List (List ℕ)
   pub index : IsIndexOf view.kind (matches digits read) found
-  pub name : IsAbbreviatedAs fewest view.kind read found abbreviation
+  pub says : IsAbbreviatedAs fewest view.kind read found abbreviation
 
--- these are the ids with a first byte, which are those that begin with its two digits, each once, in order, with its name
-pub record AreNamed (fewest : ℕ) (view : StoreView) (byte : ℕ) (named : List NamedId) : Type 0 where
+-- these are the ids with a first byte, which are those that begin with its two digits, each once, in order, with its abbreviation
+pub record AreAbbreviated (fewest : ℕ) (view : StoreView) (byte : ℕ) (abbreviated : List AbbreviatedId) : Type 0 where
   pub read : List (List ℕ)
   pub ids_read : AreIdsRead view byte read
-  pub index : IsIndexOf view.kind (matches (byte / 16 ∷ byte % 16 ∷ []) read) (map (λ (n : NamedId). id_digits n.id) named)
-  pub names : All (λ (n : NamedId). IsNameIn fewest read (id_digits n.id) n.name.digits) named
-  pub kinds : All (IsOfKind view.kind) named
+  pub index : IsIndexOf view.kind (matches (byte / 16 ∷ byte % 16 ∷ []) read) (map (λ (n : AbbreviatedId). id_digits n.id) abbreviated)
+  pub abbreviations : All (λ (n : AbbreviatedId). IsAbbreviationIn fewest read (id_digits n.id) n.abbreviation.digits) abbreviated
+  pub kinds : All (IsOfKind view.kind) abbreviated
 
 -- what the look-up of an abbreviation counts as: 1, or 0 if no id begins with the prefix
 abbrev pub id_count : Abbreviation → ℕ
 id_count Missing = 0
 id_count Ambiguous = 1
-id_count (Named named) = 1
+id_count (Unique abbreviated) = 1
 
 -- there is an abbreviation for each prefix
 abbrev pub AreAbbreviatedOfEach : ℕ → StoreView → List KindDigits → List Abbreviation → Type 0

@@ -10,15 +10,19 @@
 //! change meanwhile.
 #![tactic(auto)]
 
+mod abbreviations;
 mod error;
 pub mod laws;
+mod locations;
 mod look_ups;
 mod parts;
 mod store;
 
+pub use abbreviations::{AbbreviatedId, Abbreviation};
 pub use error::Error;
+pub use locations::{LocatedId, Location};
 pub use look_ups::{
     Abbreviating, Locating, LookUp, Matching, abbreviate_part, look_up_each, lookup_prefix,
 };
-pub use parts::{Abbreviation, LocatedId, Location, NamedId, Parts};
+pub use parts::Parts;
 pub use store::{LooseTable, Reopen, Store, StorePaths};

@@ -1,14 +1,16 @@
 //! Look-ups of a prefix, of several prefixes, and of all ids with a first byte.
 
-ghost use Rattle.std.specs.Prelude.{◌≡◌, ◌-◌, ◌<◌, ◌≤◌, ℕ, All, IfErr, IfNone, IfOk, IfSome, List, SomeIff, length, map, slice_index_or};
+ghost use Rattle.std.specs.Prelude.{◌≡◌, ◌-◌, ◌<◌, ◌≤◌, ℕ, All, IfErr, IfNone, IfOk, IfSome, List, SomeIff, length};
 ghost use Rattle.std.specs.List.{AllZip, sum_by};
-ghost use Rattle.id_lookup.specs.Words.{IsIndex, IsShortestNameFrom, KindDigits, first_byte_of, hex_len_of, id_digits, id_kind};
-ghost use Rattle.object_store.specs.Several.{AreFirstMatches, AreLocated, AreNamed, IsAbbreviated, IsLocationsFault, id_count, location_count};
-ghost use Rattle.object_store.specs.Stores.{AreMatches, ArePlaces, CanLookUp, HaveMore, IsListed, IsOfKind, IsOfOne, IsStoreFault, StoreView};
+ghost use Rattle.id_lookup.specs.Words.{KindDigits, first_byte_of, hex_len_of};
+ghost use Rattle.object_store.specs.Several.{AreFirstMatches, AreLocated, AreAbbreviated, IsAbbreviated, IsLocationsFault, id_count, location_count};
+ghost use Rattle.object_store.specs.Stores.{AreMatches, ArePlaces, CanLookUp, HaveMore, IsListed, IsOfOne, IsStoreFault, StoreView};
 ghost use Rattle.object_store.specs.declared.error.Error.{Error as StoreError};
 
+use crate::abbreviations::{AbbreviatedId, Abbreviation, with_abbreviations};
 use crate::error::Error;
-use crate::parts::{Abbreviation, LocatedId, NamedId, Parts, named_at, two_digits};
+use crate::locations::LocatedId;
+use crate::parts::{Parts, two_digits};
 use crate::store::{Store, StorePaths};
 use gix_hash::{Kind, ObjectId, Prefix};
 use std::alloc::{AllocError, Allocator};
@@ -180,8 +182,8 @@ fn key_of(prefix: &Prefix) -> u64 {
 /// let found = look_up_each(rt.alloc(), &mut store, &prefixes, 65_536, &matching)?;
 /// let located = Locating { limit: Some(2) };
 /// let located = look_up_each(rt.alloc(), &mut store, &prefixes, 65_536, &located)?;
-/// let named = Abbreviating { least: 7 };
-/// let named = look_up_each(rt.alloc(), &mut store, &prefixes, 65_536, &named)?;
+/// let abbreviated = Abbreviating { least: 7 };
+/// let abbreviated = look_up_each(rt.alloc(), &mut store, &prefixes, 65_536, &abbreviated)?;
 /// ```
 pub trait LookUp<S: Store, A: Allocator + Copy> {
     /// What is found for a prefix.
@@ -328,7 +330,7 @@ impl<S: Store, A: Allocator + Copy> LookUp<S, A> for Abbreviating {
     fn left(&self, found: &Abbreviation, room: usize) -> Option<usize> {
         match found {
             Abbreviation::Missing => Some(room),
-            Abbreviation::Ambiguous | Abbreviation::Named(_) => room.checked_sub(1),
+            Abbreviation::Ambiguous | Abbreviation::Unique(_) => room.checked_sub(1),
         }
     }
 }
@@ -344,8 +346,8 @@ impl<S: Store, A: Allocator + Copy> LookUp<S, A> for Abbreviating {
 ///
 /// ```
 /// for byte in 0..=255 {
-///     let named = abbreviate_part(rt.alloc(), &mut store, byte, 4)?;
-///     println!(rt; "{} ids", named.len())?;
+///     let abbreviated = abbreviate_part(rt.alloc(), &mut store, byte, 4)?;
+///     println!(rt; "{} ids", abbreviated.len())?;
 /// }
 /// ```
 pub fn abbreviate_part<S: Store, A: Allocator + Copy>(
@@ -353,39 +355,16 @@ pub fn abbreviate_part<S: Store, A: Allocator + Copy>(
     store: &mut S,
     byte: u8,
     least: usize,
-) -> Result<Vec<NamedId, A>, Error>
+) -> Result<Vec<AbbreviatedId, A>, Error>
     requires listed { IsListed (S.view store.old) byte }
     requires enough { 4 ≤ least }
     requires fits { least ≤ hex_len_of (S.view store.old).kind }
     ensures same { store.new ≡ store.old }
-    ensures named { IfOk result (λ named. AreNamed least (S.view store.old) byte named.items) }
+    ensures abbreviated { IfOk result (λ abbreviated. AreAbbreviated least (S.view store.old) byte
+        abbreviated.items) }
     ensures err { IfErr result (IsStoreFault (S.view store.old) byte) }
 {
     let kind = store.object_hash();
     let ids = lookup_prefix(alloc, store, &two_digits(kind, byte))?;
-    Ok(name_all(alloc, &ids, kind, least)?)
-}
-
-// The ids of an index, each with its abbreviation in the index.
-fn name_all<A: Allocator>(
-    alloc: A,
-    ids: &[ObjectId],
-    kind: Kind,
-    least: usize,
-) -> Result<Vec<NamedId, A>, AllocError>
-    requires index { IsIndex kind (map id_digits ids.now) }
-    requires kinds { All (λ id. id_kind id ≡ kind) ids.now }
-    requires enough { 4 ≤ least }
-    requires fits { least ≤ hex_len_of kind }
-    ensures kinds { IfOk result (λ named. All (IsOfKind kind) named.items) }
-    ensures ids { IfOk result (λ named. map (λ (n : NamedId). n.id) named.items ≡ ids.now) }
-    ensures names { IfOk result (λ named. (k : ℕ) (d : NamedId) → k < length named.items
-        → IsShortestNameFrom least (map id_digits ids.now) k
-        (slice_index_or named.items k d).name.digits) }
-{
-    let mut named = Vec::with_capacity(alloc, ids.len())?;
-    for at in 0..ids.len() {
-        named.push(named_at(ids, kind, at, least))?;
-    }
-    Ok(named)
+    Ok(with_abbreviations(alloc, &ids, kind, least)?)
 }

@@ -1,16 +1,18 @@
 //! A cursor over the parts of a store, and what it finds in a part.
 
-ghost use Rattle.std.specs.Prelude.{◌≡◌, ◌⊎◌, ◌≤◌, ◌<◌, ◌/◌, ◌%◌, ◌++◌, [], ◌∷◌, All, IfErr, IfOk, IsTrue, OnOk, Some, flat_map, length, map, nat_eq, slice_get, take, true};
+ghost use Rattle.std.specs.Prelude.{◌≡◌, ◌⊎◌, ◌≤◌, ◌/◌, ◌%◌, ◌++◌, [], ◌∷◌, All, IfErr, IfOk, IsTrue, OnOk, flat_map, length, map, nat_eq, take, true};
 ghost use Rattle.std.specs.List.{starts_with};
-ghost use Rattle.id_lookup.specs.Words.{IsIndex, IsShortestNameFrom, first_byte_of, hex_len_of, id_digits, id_kind, matches};
-ghost use Rattle.object_store.specs.Several.{AreFirstMatches, AreLocated, IsAbbreviated, IsAbbreviatedAs, IsLocationsFault, limited_to};
-ghost use Rattle.object_store.specs.Stores.{AreLocations, AreMatches, AreParts, CanLookUp, HaveBuckets, IsAbbreviationOf, IsListed, IsLocateFault, IsOfKind, IsStoreFault};
-ghost use Rattle.pack_index.specs.Lazy.{BucketNames};
+ghost use Rattle.id_lookup.specs.Words.{first_byte_of, hex_len_of, id_digits, id_kind, matches};
+ghost use Rattle.object_store.specs.Several.{AreFirstMatches, AreLocated, IsAbbreviated, IsLocationsFault, limited_to};
+ghost use Rattle.object_store.specs.Stores.{AreLocations, AreMatches, AreParts, CanLookUp, HaveBuckets, IsAbbreviationOf, IsListed, IsLocateFault, IsStoreFault};
+ghost use Rattle.pack_index.specs.Lazy.{BucketIds};
 
+use crate::abbreviations::{Abbreviation, abbreviation_in};
 use crate::error::Error;
+use crate::locations::{LocatedId, Location, locate_in};
 use crate::store::{Store, StorePaths, beginning_with};
 use gix_hash::{Kind, ObjectId, Prefix};
-use id_lookup::{abbreviate_in, find_assuming_sorted, sort_unique};
+use id_lookup::sort_unique;
 use pack_index::Bucket;
 use std::alloc::{AllocError, Allocator};
 use std::marker::Model;
@@ -183,7 +185,7 @@ impl<'s, S: Store, A: Allocator + Copy> Parts<'s, S, A> {
         // The contract of this call says how many digits the id has.
         let _kind = id.kind();
         match self.abbreviate_prefix(&Prefix::from(*id), least)? {
-            Abbreviation::Named(named) => Ok(Some(named.name)),
+            Abbreviation::Unique(abbreviated) => Ok(Some(abbreviated.abbreviation)),
             Abbreviation::Missing | Abbreviation::Ambiguous => Ok(None),
         }
     }
@@ -310,7 +312,19 @@ impl<'s, S: StorePaths, A: Allocator + Copy> Parts<'s, S, A> {
         ensures err { IfErr result (IsLocationsFault limit (S.view self.old.now)
             prefix.now.digits) }
     {
-        locate_first(self, prefix, limit)
+        let first = self.lookup_first(prefix, limit)?;
+        let mut located = Vec::with_capacity(self.alloc, first.len())?;
+        for id in &first {
+            let locations = self.locate(id)?;
+            let loose_paths = self.store().loose_paths(id)?;
+            let one = LocatedId {
+                id: *id,
+                locations,
+                loose_paths,
+            };
+            push(&mut located, one)?;
+        }
+        Ok(located)
     }
 }
 
@@ -408,9 +422,9 @@ fn push_packed<A: Allocator>(
     prefix: &Prefix,
 ) -> Result<(), AllocError>
     requires fits { length prefix.now.digits ≤ hex_len_of kind }
-    requires kinds { All (λ (bucket : BucketNames). bucket.kind ≡ kind) buckets.now }
+    requires kinds { All (λ (bucket : BucketIds). bucket.kind ≡ kind) buckets.now }
     ensures digits { OnOk result (map id_digits ids.new.items ≡ map id_digits ids.old.items
-        ++ flat_map (λ (bucket : BucketNames). matches prefix.now.digits bucket.names)
+        ++ flat_map (λ (bucket : BucketIds). matches prefix.now.digits bucket.ids)
         buckets.now) }
     ensures kinds { OnOk result (All (λ id. id_kind id ≡ kind) ids.old.items
         → All (λ id. id_kind id ≡ kind) ids.new.items) }
@@ -436,75 +450,6 @@ fn push_all<A: Allocator>(
     Ok(ids.extend_from_slice(more)?)
 }
 
-/// A location of an object in a store.
-///
-/// ```
-/// for location in Parts::new(rt.alloc(), &mut store).locate(&id)?.iter() {
-///     match location {
-///         Location::Packed { pack, offset } => println!(rt; "pack {pack}, at byte {offset}")?,
-///         Location::Loose => println!(rt; "loose")?,
-///     }
-/// }
-/// ```
-#[derive(Clone, Copy, PartialEq, Eq, Debug)]
-pub enum Location {
-    /// The object is in a pack.
-    Packed {
-        /// The position of the pack's index among [`Store::indexes`], from 0.
-        pack: usize,
-        /// The offset of the object in the pack, in bytes.
-        offset: u64,
-    },
-    /// The object is a loose object.
-    Loose,
-}
-
-/// An id with all locations of its object.
-///
-/// ```
-/// for located in Parts::new(rt.alloc(), &mut store).locate_prefix(&prefix, None)?.iter() {
-///     println!(rt; "{}: {} copies", located.id, located.locations.len())?;
-/// }
-/// ```
-#[derive(Drop)]
-pub struct LocatedId<A: Allocator> {
-    /// The id.
-    pub id: ObjectId,
-    /// All locations, as [`Parts::locate`] gives them.
-    pub locations: Vec<Location, A>,
-    /// The paths of the files of the loose object, as [`StorePaths::loose_paths`] gives them.
-    pub loose_paths: Vec<String>,
-}
-
-// Locates the ids that begin with a prefix: the first ones up to the limit, or all if there is no
-// limit.
-fn locate_first<S: StorePaths, A: Allocator + Copy>(
-    parts: &mut Parts<'_, S, A>,
-    prefix: &Prefix,
-    limit: Option<usize>,
-) -> Result<Vec<LocatedId<A>, A>, Error>
-    requires { CanLookUp (S.view parts.old.now) prefix.now }
-    ensures store { parts.new ≡ parts.old }
-    ensures located { IfOk result (λ located. AreLocated limit (S.view parts.old.now)
-        (S.loose_paths parts.old.now) prefix.now.digits located.items) }
-    ensures err { IfErr result (IsLocationsFault limit (S.view parts.old.now)
-        prefix.now.digits) }
-{
-    let first = parts.lookup_first(prefix, limit)?;
-    let mut located = Vec::with_capacity(parts.alloc, first.len())?;
-    for id in &first {
-        let locations = parts.locate(id)?;
-        let loose_paths = parts.store().loose_paths(id)?;
-        let one = LocatedId {
-            id: *id,
-            locations,
-            loose_paths,
-        };
-        push(&mut located, one)?;
-    }
-    Ok(located)
-}
-
 // The first ids of a list, at most as many as the limit, or all if there is no limit.
 fn limited_to(ids: &[ObjectId], limit: Option<usize>) -> &[ObjectId]
     ensures { result.now ≡ limited_to limit ids.now }
@@ -515,76 +460,11 @@ fn limited_to(ids: &[ObjectId], limit: Option<usize>) -> &[ObjectId]
     }
 }
 
-// All locations of an object. Its id is in the bucket of each pack index that has it.
-fn locate_in<S: Store, A: Allocator + Copy>(
-    alloc: A,
-    store: &S,
-    buckets: &[Bucket<A>],
-    id: &ObjectId,
-) -> Result<Vec<Location, A>, Error>
-    requires buckets { AreParts (S.view store.now) (id_digits id.now) buckets.now }
-    requires kind { id_kind id.now ≡ (S.view store.now).kind }
-    ensures locations { IfOk result (λ locations. AreLocations (S.view store.now)
-        (id_digits id.now) locations.items) }
-    ensures err { IfErr result (IsLocateFault (S.view store.now) (id_digits id.now)) }
-{
-    let mut locations = Vec::new(alloc);
-    let packs = store.indexes();
-    for pack in 0..packs.len() {
-        let index = &packs[pack];
-        if let Some(at) = index.lookup(&buckets[pack], id.as_oid()) {
-            match index.pack_offset_at_index(at) {
-                Ok(offset) => push(&mut locations, Location::Packed { pack, offset })?,
-                Err(error) => return Err(Error::of_index(store.index_path(pack)?, error)),
-            }
-        }
-    }
-    if store.loose().contains(id) {
-        push(&mut locations, Location::Loose)?;
-    }
-    Ok(locations)
-}
-
 // Adds an item to a list.
-fn push<T: Drop, A: Allocator>(items: &mut Vec<T, A>, item: T) -> Result<(), AllocError>
+pub(crate) fn push<T: Drop, A: Allocator>(items: &mut Vec<T, A>, item: T) -> Result<(), AllocError>
     ensures { OnOk result (items.new.items ≡ items.old.items ++ item ∷ []) }
 {
     Ok(items.push(item)?)
-}
-
-/// An id with its abbreviation.
-///
-/// ```
-/// for named in abbreviate_part(rt.alloc(), &mut store, 0x4b, 4)?.iter() {
-///     println!(rt; "{} {}", named.name, named.id)?;
-/// }
-/// ```
-#[derive(Clone, Copy, Debug)]
-pub struct NamedId {
-    /// The id.
-    pub id: ObjectId,
-    /// Its abbreviation: its first digits, with which no other id of the store begins.
-    pub name: Prefix,
-}
-
-/// The only id of a store that begins with a prefix, with its abbreviation, or whether no id or
-/// more than one begins with it.
-///
-/// ```
-/// match Parts::new(rt.alloc(), &mut store).abbreviate_prefix(&prefix, 4)? {
-///     Abbreviation::Missing => println!(rt; "missing")?,
-///     Abbreviation::Ambiguous => println!(rt; "ambiguous")?,
-///     Abbreviation::Named(named) => println!(rt; "{} {}", named.name, named.id)?,
-/// }
-/// ```
-#[derive(Clone, Copy, Debug)]
-pub enum Abbreviation {
-    /// No id begins with the prefix.
-    Missing,
-    /// More than one id begins with it.
-    Ambiguous,
-    /// Exactly one id begins with it.
-    Named(NamedId),
 }
 
 // The two digits of a first byte as a prefix of the kind. All ids with this byte begin with it.
@@ -606,42 +486,4 @@ fn front_of(prefix: &Prefix, least: usize) -> Prefix
         return *prefix;
     }
     Prefix::new(prefix.as_oid(), least).unwrap()
-}
-
-// The id at a position of an index, with its abbreviation in the index.
-#[inline(always)]
-pub(crate) fn named_at(ids: &[ObjectId], kind: Kind, at: usize, least: usize) -> NamedId
-    requires in_range { at < length ids.now }
-    requires index { IsIndex kind (map id_digits ids.now) }
-    requires kinds { All (λ id. id_kind id ≡ kind) ids.now }
-    requires enough { 4 ≤ least }
-    requires fits { least ≤ hex_len_of kind }
-    ensures id { slice_get ids.now at ≡ Some result.id }
-    ensures name { IsShortestNameFrom least (map id_digits ids.now) at result.name.digits }
-    ensures kind { IsOfKind kind result }
-{
-    NamedId {
-        id: ids[at],
-        name: abbreviate_in(ids, kind, at, least),
-    }
-}
-
-// The abbreviation of the only id of an index that begins with a prefix. The index is of the
-// prefix's kind. The id is found by binary search, and compared with its two neighbours.
-fn abbreviation_in(ids: &[ObjectId], prefix: &Prefix, least: usize) -> Abbreviation
-    requires index { IsIndex prefix.now.kind (map id_digits ids.now) }
-    requires kinds { All (λ id. id_kind id ≡ prefix.now.kind) ids.now }
-    requires enough { 4 ≤ least }
-    requires fits { least ≤ hex_len_of prefix.now.kind }
-    ensures { IsAbbreviatedAs least prefix.now.kind (map id_digits ids.now)
-        (matches prefix.now.digits (map id_digits ids.now)) result }
-{
-    // The contract of this call says how many digits the prefix has at most.
-    let _hex_len = prefix.hex_len();
-    let run = find_assuming_sorted(ids, prefix);
-    match run.end - run.start {
-        0 => Abbreviation::Missing,
-        1 => Abbreviation::Named(named_at(ids, prefix.as_oid().kind(), run.start, least)),
-        _ => Abbreviation::Ambiguous,
-    }
 }

@@ -20,10 +20,11 @@ use streams::ReadAt;
 /// println!(rt; "{} loose ids", store.loose().ids().len())?;
 /// ```
 pub trait Store {
-    ghost use Rattle.std.specs.Prelude.{◌≡◌, ◌<◌, ◌≤◌, [], All, IfErr, IfOk, length, slice_index_or, string_bytes};
+    ghost use Rattle.std.specs.Prelude.{◌≡◌, ◌<◌, ◌≤◌, [], All, IfErr, IfOk, length, map, slice_index_or, string_bytes};
     ghost use Rattle.id_lookup.specs.Words.{first_byte_of, hex_len_of};
     ghost use Rattle.object_store.specs.Stores.{StoreView};
-    ghost use Rattle.pack_index.specs.Lazy.{IfKnown, IsBucketFault, IsPartOf, LazyIndex};
+    ghost use Rattle.std.specs.Option.{ForSome};
+    ghost use Rattle.pack_index.specs.Lazy.{IndexView, IsBucketFault, IsPartOf, seen};
 
     /// The source from which the bytes of a pack index are read.
     type Source: ReadAt + Drop;
@@ -38,7 +39,7 @@ pub trait Store {
 
     /// The pack indexes, which are all of the store's kind.
     fn indexes(&self) -> &[LazyFile<Self::Source>]
-        ensures value { result.now ≡ (view self.now).packs }
+        ensures value { map seen result.now ≡ (view self.now).packs }
         ensures kinds { All (λ pack. pack.kind ≡ (view self.now).kind) (view self.now).packs };
 
     /// Calls [`LazyFile::part`] of the pack index at a position among [`Store::indexes`], from 0.
@@ -55,12 +56,12 @@ pub trait Store {
         requires fits { length prefix.now.digits ≤ hex_len_of (view self.old).kind }
         requires enough { 2 ≤ length prefix.now.digits }
         ensures same { self.new ≡ self.old }
-        ensures part { IfOk result (λ part. (default : LazyIndex)
+        ensures part { IfOk result (λ part. (default : IndexView)
             → IsPartOf (slice_index_or (view self.old).packs at default) prefix.now.digits part) }
-        ensures err { IfErr result (λ e. (default : LazyIndex)
+        ensures err { IfErr result (λ e. (default : IndexView)
             → let pack = slice_index_or (view self.old).packs at default in
-            IfKnown (λ bytes. IsBucketFault pack.can_fail pack.kind bytes
-            (first_byte_of prefix.now.digits) e) pack) };
+            ForSome pack.tables (λ tables. IsBucketFault pack.can_fail tables
+            (first_byte_of prefix.now.digits) e)) };
 
     /// The path of the pack index at a position among [`Store::indexes`], from 0, as errors give
     /// it. The only error is that memory ran out.

@@ -1,14 +1,14 @@
--- How many names the bytes of a pack index have, and how many digits each.
+-- How many ids the bytes of a pack index have, and how many digits each.
 use Rattle.gix_hash.proofs.Std.{◌≡◌, ℕ, ◌-◌, ◌+◌, ◌*◌, ◌/◌, ◌<◌, ◌≤◌, zero, suc, List, [], ◌∷◌, length, map, get_or, take, drop, refl, sym, ap, subst, ◌∙◌, arith, length-drop, slice_range, drop-drop, get_or-map, length-map, length-take-le, first_chunks}
 use Rattle.id_lookup.specs.Words.{Kind, Sha1, Sha256, byte_len_of, digits_of, hex_len_of, least_hex_len}
 use Rattle.id_digits.proofs.ByteDigits.{length-digits_of}
-use Rattle.pack_index.specs.Format.{HasTables, crc_table_start, digests_in, names_in, names_start, num_objects}
+use Rattle.pack_index.specs.Format.{HasTables, crc_table_start, digests_in, ids_in, ids_start, num_objects}
 
 -- their bytes
-pub length-table : (kind : Kind) (bytes : List ℕ) → HasTables kind bytes → length (slice_range bytes names_start (crc_table_start kind bytes)) ≡ byte_len_of kind * num_objects bytes
+pub length-table : (kind : Kind) (bytes : List ℕ) → HasTables kind bytes → length (slice_range bytes ids_start (crc_table_start kind bytes)) ≡ byte_len_of kind * num_objects bytes
 length-table kind bytes tables =
-    let behind = length-drop names_start bytes in
-    length-take-le (crc_table_start kind bytes - names_start) (drop names_start bytes) (omega (arith, tables.fits)) ∙ omega arith
+    let behind = length-drop ids_start bytes in
+    length-take-le (crc_table_start kind bytes - ids_start) (drop ids_start bytes) (omega (arith, tables.fits)) ∙ omega arith
 
 pub as_many : (kind : Kind) (n : ℕ) → byte_len_of kind * n / byte_len_of kind ≡ n
 as_many Sha1 n = omega arith
@@ -23,9 +23,9 @@ length-digests_in kind bytes =
     length-map (first_chunks (byte_len_of kind) (length bytes / byte_len_of kind) bytes) digits_of ∙ length-first_chunks (byte_len_of kind) (length bytes / byte_len_of kind) bytes
 
 -- as many as are counted
-pub length-names_in : (kind : Kind) (bytes : List ℕ) → HasTables kind bytes → length (names_in kind bytes) ≡ num_objects bytes
-length-names_in kind bytes tables =
-    length-digests_in kind (slice_range bytes names_start (crc_table_start kind bytes)) ∙ ap (λ n. n / byte_len_of kind) (length-table kind bytes tables)
+pub length-ids_in : (kind : Kind) (bytes : List ℕ) → HasTables kind bytes → length (ids_in kind bytes) ≡ num_objects bytes
+length-ids_in kind bytes tables =
+    length-digests_in kind (slice_range bytes ids_start (crc_table_start kind bytes)) ∙ ap (λ n. n / byte_len_of kind) (length-table kind bytes tables)
     ∙ as_many kind (num_objects bytes)
 
 -- the digits of a digest
@@ -43,7 +43,7 @@ digest_digits kind bytes k d low =
     get_or-map digits_of (first_chunks (byte_len_of kind) count bytes) k d d (omega (arith, low, length-first_chunks (byte_len_of kind) count bytes))
     ∙ ap digits_of (get_or-first_chunks (byte_len_of kind) count k bytes d low)
 
--- each name has as many digits as its kind
+-- each id has as many digits as its kind
 whole : (n k : ℕ) (bytes : List ℕ) → n * k + n ≤ length bytes → length (digits_of (take n (drop (n * k) bytes))) ≡ 2 * n
 whole n k bytes room =
     omega (arith, length-digits_of (take n (drop (n * k) bytes)), length-take-le n (drop (n * k) bytes) (omega (arith, room, length-drop (n * k) bytes)))
@@ -56,7 +56,7 @@ length-digests_in_at Sha256 bytes k low =
     let inside : k < length bytes / 32 = omega (arith, low, length-digests_in Sha256 bytes) in
     ap length (digest_digits Sha256 bytes k [] inside) ∙ whole 32 k bytes (omega (arith, inside))
 
--- a prefix of the kind has at most as many digits as each of the names
+-- a prefix of the kind has at most as many digits as each of the ids
 least_of : (n : ℕ) (ids : List (List ℕ)) → n ≤ 64 → ((k : ℕ) → k < length ids → length (get_or ids k []) ≡ n) → n ≤ least_hex_len ids
 least_of n [] most each = most
 least_of n (id ∷ ids) most each = omega (arith, each 0 (omega arith), least_of n ids most (λ k low. each (suc k) (omega (arith, low))))

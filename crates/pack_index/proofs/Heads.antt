@@ -2,8 +2,8 @@
 use Rattle.gix_hash.proofs.Std.{◌≡◌, ℕ, zero, suc, ◌+◌, ◌-◌, ◌*◌, ◌<◌, ◌≤◌, List, [], ◌∷◌, length, get_or, take, drop, refl, sym, ap, ◌∙◌, arith, zero-add, get_or-take, get_or-drop}
 use Rattle.std.specs.Int.{from_be_bytes, w32}
 use Rattle.id_lookup.specs.Words.{Kind, Sha1, Sha256, byte_len_of}
-use Rattle.pack_index.specs.Format.{BeginsIndex, Each, FillsBytes, HasHead, HasTables, IsFirstNot, IsHeadFault, long_table_start, min_len, names_start, num_objects, offset_table_start, other_than, word_at}
-use Rattle.pack_index.specs.Lazy.{Rises, bucket_end, bucket_start}
+use Rattle.pack_index.specs.Format.{BeginsIndex, Each, FillsBytes, HasHead, HasTables, IsFirstNot, IsHeadFault, long_table_start, min_len, ids_start, num_objects, offset_table_start, other_than, word_at}
+use Rattle.pack_index.specs.Lazy.{Rises, bucket_start, fan_out}
 use Rattle.pack_index.specs.declared.error.Error.{Error}
 use Rattle.pack_index.specs.declared.error.Error.TheVariants.{OtherKind, TooShort, Version1, BadMagic, BadVersion, WrongLength}
 use Rattle.streams.specs.Streams.{IsReadAt}
@@ -27,18 +27,18 @@ module _ (bytes head : List ℕ) (front : IsReadAt bytes 0 head) (long : length 
   pub head_count : num_objects head ≡ num_objects bytes
   head_count = head_word 1028 (omega arith)
 
-  pub start_in_head : (byte : ℕ) → byte < 256 → bucket_start head byte ≡ bucket_start bytes byte
+  pub start_in_head : (byte : ℕ) → byte < 256 → bucket_start (fan_out head) byte ≡ bucket_start (fan_out bytes) byte
   start_in_head zero low = refl
   start_in_head (suc b) low = head_word (8 + 4 * b) (omega arith)
 
-  pub end_in_head : (byte : ℕ) → byte < 256 → bucket_end head byte ≡ bucket_end bytes byte
+  pub end_in_head : (byte : ℕ) → byte < 256 → fan_out head byte ≡ fan_out bytes byte
   end_in_head byte low = head_word (8 + 4 * byte) (omega arith)
 
   -- entries that do not fall in the head do not fall in the bytes, and the first that falls is one there
-  pub all_rise : Each (Rises head) 256 → Each (Rises bytes) 256
+  pub all_rise : Each (Rises (fan_out head)) 256 → Each (Rises (fan_out bytes)) 256
   all_rise rise = λ b low. omega (arith, rise b low, start_in_head b low, end_in_head b low)
 
-  pub first_falls : (byte : ℕ) → IsFirstNot (Rises head) 256 byte → IsFirstNot (Rises bytes) 256 byte
+  pub first_falls : (byte : ℕ) → IsFirstNot (Rises (fan_out head)) 256 byte → IsFirstNot (Rises (fan_out bytes)) 256 byte
   first_falls byte (low, before, falls) = (
     low,
     λ b less. omega (arith, before b less, start_in_head b (omega (arith, less, low)), end_in_head b (omega (arith, less, low))),
@@ -47,10 +47,10 @@ module _ (bytes head : List ℕ) (front : IsReadAt bytes 0 head) (long : length 
 
   -- where the offsets and the 8-byte offsets begin
   pub offsets_in_head : (kind : Kind) → offset_table_start kind head ≡ offset_table_start kind bytes
-  offsets_in_head kind = ap (λ n. names_start + byte_len_of kind * n + 4 * n) head_count
+  offsets_in_head kind = ap (λ n. ids_start + byte_len_of kind * n + 4 * n) head_count
 
   pub long_in_head : (kind : Kind) → long_table_start kind head ≡ long_table_start kind bytes
-  long_in_head kind = ap (λ n. names_start + byte_len_of kind * n + 4 * n + 4 * n) head_count
+  long_in_head kind = ap (λ n. ids_start + byte_len_of kind * n + 4 * n + 4 * n) head_count
 
   -- what is said of the head and the length holds of the bytes
   pub begins : (kind : Kind) (len : ℕ) → len ≡ length bytes → BeginsIndex kind head len → HasHead kind bytes
@@ -83,9 +83,9 @@ head_inside Sha1 len enough = omega arith
 head_inside Sha256 len enough = omega arith
 
 -- if no entry falls, each is at most the last
-pub count_inside : (bytes : List ℕ) → Each (Rises bytes) 256 → (byte : ℕ) → byte < 256 → bucket_end bytes byte ≤ num_objects bytes
+pub count_inside : (bytes : List ℕ) → Each (Rises (fan_out bytes)) 256 → (byte : ℕ) → byte < 256 → fan_out bytes byte ≤ num_objects bytes
 count_inside bytes rise byte low = up (255 - byte) byte (omega (arith, low))
   where
-    up : (left b : ℕ) → b + left ≡ 255 → bucket_end bytes b ≤ num_objects bytes
-    up zero b last = let is : b ≡ 255 = omega (arith, last) in omega (arith, ap (bucket_end bytes) is)
+    up : (left b : ℕ) → b + left ≡ 255 → fan_out bytes b ≤ num_objects bytes
+    up zero b last = let is : b ≡ 255 = omega (arith, last) in omega (arith, ap (fan_out bytes) is)
     up (suc left) b more = omega (arith, rise (suc b) (omega (arith, more)), up left (suc b) (omega (arith, more)))

@@ -4,8 +4,10 @@ pub mod Counted
 mod Cuts
 mod Fronts
 mod Heads
+mod Known
 mod Looked
 pub mod LookedUp
 pub mod Parts
-mod ReadOffsets
+mod Ranges
+pub mod ReadOffsets
 mod Refusals

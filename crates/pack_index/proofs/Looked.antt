@@ -1,4 +1,4 @@
--- Where an id is among names of its kind, by the run of all its digits.
+-- Where an id is among ids of its kind, by the run of all its digits.
 use Rattle.gix_hash.proofs.Std.{◌≡◌, ◌≢◌, ℕ, ◌-◌, ◌<◌, ◌≤◌, true, false, not, nat_eq, Option, None, Some, List, [], length, get_or, take, inl, inr, refl, sym, ap, subst, ◌∙◌, arith, append-nil, ◌↔◌, IfSome, IsTrue, take_all, take_at, slice_cmp, Contains, is_lt, nat_cmp, ordering_reverse, Ordering, Equal, Greater, Less, cases_lt, false≢true, nat_list_cmp_total, get_or_default, ranks_by, sorted_far}
 use Rattle.std.specs.FinMap.{nat_cmp-IsAntisymmetric, slice_cmp-IsAntisymmetric}
 use Rattle.id_lookup.specs.Words.{BeginsWith, IsRun, IsSortedIds, Kind, KindDigits, begins_with, hex_len_of, number_of}
@@ -9,7 +9,7 @@ use Rattle.pack_index.specs.Format.{IsFirstIndexOf}
 module _ (prefix : KindDigits) (names : List (List ℕ)) (run : Run) (is : IsRun prefix names run)
     (begins : (id : List ℕ) → IsTrue (begins_with id prefix) ↔ BeginsWith id prefix.digits)
     (long : (k : ℕ) → k < length names → length (get_or names k []) ≡ length prefix.digits) where
-  -- the names of the run are the id
+  -- the ids of the run are the id
   same_within : (k : ℕ) → k < length names → run.start ≤ k → k < run.end → get_or names k [] ≡ prefix.digits
   same_within k inside low high =
       let id = get_or names k [] in
@@ -81,7 +81,7 @@ first_between names id at sorted reach below above there =
 pub kinds_differ : (a b : Kind) → not (nat_eq (number_of a) (number_of b)) ≡ true → hex_len_of a ≢ hex_len_of b
 kinds_differ a b other same = false≢true (sym (not_other a b (same_kind a b same)) ∙ other)
 
--- the beginning of a name is of the kind of its digits
+-- the beginning of an id is of the kind of its digits
 pub named_kind : (kind : Kind) (names : List (List ℕ)) (at : ℕ) (answer : Option KindDigits) → length (get_or names at []) ≡ hex_len_of kind
     → IfSome answer (λ name. hex_len_of name.kind ≡ length (get_or names at [])) → IfSome answer (λ name. name.kind ≡ kind)
 named_kind kind names at None long is = is

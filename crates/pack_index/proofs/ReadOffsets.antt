@@ -1,11 +1,12 @@
--- The offset of a name, by what was read of it.
-use Rattle.gix_hash.proofs.Std.{◌≡◌, ℕ, ◌+◌, ◌-◌, ◌*◌, ◌^◌, ◌<◌, ◌≤◌, List, length, sym, ap, ◌∙◌, arith, cond-false, le-ltb}
+-- The offset of an object, by what was read of it.
+use Rattle.gix_hash.proofs.Std.{◌≡◌, ℕ, ◌+◌, ◌-◌, ◌*◌, ◌^◌, ◌<◌, ◌≤◌, inl, inr, None, Some, List, length, refl, sym, ap, ◌∙◌, arith, cases_lt, le-leb, le-ltb, lt-leb, lt-ltb}
 use Rattle.id_lookup.specs.Words.{Kind}
 use Rattle.pack_index.specs.Format.{HasOffset, HasTables, long_entry, long_table_start, long_word, num_objects, offset_in, offset_table_start, offset_word, tables_end, word_at}
+use Rattle.pack_index.specs.Lazy.{offset_at}
 use Rattle.pack_index.proofs.Heads.{head_count, offsets_in_head, word_within}
 use Rattle.streams.specs.Streams.{IsReadAt}
 
--- the word that was read is that of the name
+-- the word that was read is that of the id
 pub word_is : (kind : Kind) (bytes head short : List ℕ) (at from : ℕ) → IsReadAt bytes 0 head → length head ≡ 1032 → from ≡ offset_table_start kind head + 4 * at
     → IsReadAt bytes from short → length short ≡ 4 → word_at short 0 ≡ offset_word kind bytes at
 word_is kind bytes head short at from front whole begins read four =
@@ -19,22 +20,37 @@ word_inside kind bytes head at from front whole tables low begins =
     omega (arith, low, begins, tables.fits, offsets_in_head bytes head front whole kind, head_count bytes head front whole)
 
 module _ (kind : Kind) (bytes : List ℕ) (at word : ℕ) (is : word ≡ offset_word kind bytes at) where
-  module _ (high : long_word ≤ word) (start : ℕ) (starts : start ≡ long_table_start kind bytes + 8 * (word - long_word)) where
+  pub short_offset : word < long_word → offset_at kind bytes at ≡ Some word
+  short_offset low =
+      let less : offset_word kind bytes at < long_word = omega (arith, is, low) in
+      rw (lt-leb long_word (offset_word kind bytes at) less, lt-ltb (offset_word kind bytes at) long_word less) (ap Some (sym is))
+
+  module _ (high : long_word ≤ word) (start end : ℕ) (starts : start ≡ long_table_start kind bytes + 8 * (word - long_word)) (ends : end ≡ tables_end kind bytes) where
     start_is : start ≡ long_entry kind bytes at
     start_is = omega (arith, starts, is)
 
-    pub has_long : (end : ℕ) → end ≡ tables_end kind bytes → start + 8 ≤ end → HasOffset kind bytes at
-    has_long end ends inside = λ long. omega (arith, start_is, ends, inside)
+    long_is : long_word ≤ offset_word kind bytes at
+    long_is = omega (arith, is, high)
 
-    pub no_long : (end : ℕ) → end ≡ tables_end kind bytes → end < start + 8 → ¬ HasOffset kind bytes at
-    no_long end ends outside = λ has. let fits = has (omega (arith, is, high)) in omega (arith, start_is, ends, outside, fits)
+    pub no_long : end < start + 8 → offset_at kind bytes at ≡ None
+    no_long outside = rw (le-leb long_word (offset_word kind bytes at) long_is, lt-ltb (tables_end kind bytes) (long_entry kind bytes at + 8) (omega (arith, start_is, ends, outside))) refl
 
-    pub long_offset : (offset : ℕ) (long : List ℕ) → IsReadAt bytes start long → length long ≡ 8 → offset ≡ 2 ^ 32 * word_at long 0 + word_at long 4 → offset ≡ offset_in kind bytes at
-    long_offset offset long there eight made =
+    pub long_offset : start + 8 ≤ end → (offset : ℕ) (long : List ℕ) → IsReadAt bytes start long → length long ≡ 8 → offset ≡ 2 ^ 32 * word_at long 0 + word_at long 4
+        → offset_at kind bytes at ≡ Some offset
+    long_offset inside offset long there eight made =
         let here : start + 0 ≡ long_entry kind bytes at = omega (arith, start_is) in
         let next : start + 4 ≡ long_entry kind bytes at + 4 = omega (arith, start_is) in
         let upper : word_at long 0 ≡ word_at bytes (long_entry kind bytes at) = word_within bytes start long there 0 (omega (arith, eight)) ∙ ap (word_at bytes) here in
         let lower : word_at long 4 ≡ word_at bytes (long_entry kind bytes at + 4) = word_within bytes start long there 4 (omega (arith, eight)) ∙ ap (word_at bytes) next in
-        made ∙ (λ i. 2 ^ 32 * upper i + lower i)
-        ∙ sym (cond-false _ (offset_word kind bytes at) (2 ^ 32 * word_at bytes (long_entry kind bytes at) + word_at bytes (long_entry kind bytes at + 4))
-        (le-ltb (offset_word kind bytes at) long_word (omega (arith, is, high))))
+        rw (
+          le-leb long_word (offset_word kind bytes at) long_is,
+          le-ltb (tables_end kind bytes) (long_entry kind bytes at + 8) (omega (arith, start_is, ends, inside)),
+          le-ltb (offset_word kind bytes at) long_word long_is,
+        ) (ap Some (sym (made ∙ (λ i. 2 ^ 32 * upper i + lower i))))
+
+-- an object whose offset is in a table has it
+pub has_offset : (kind : Kind) (bytes : List ℕ) (at : ℕ) → HasOffset kind bytes at → offset_at kind bytes at ≡ Some (offset_in kind bytes at)
+has_offset kind bytes at has = elim (cases_lt (offset_word kind bytes at) long_word) [
+  | inl low ↦ rw (lt-leb long_word (offset_word kind bytes at) low) refl
+  | inr high ↦ rw (le-leb long_word (offset_word kind bytes at) high, le-ltb (tables_end kind bytes) (long_entry kind bytes at + 8) (has high)) refl
+]

@@ -6,9 +6,9 @@ use Rattle.std.specs.Int.{from_be_bytes, w32}
 use Rattle.std.specs.Simd.{first_chunks}
 use Rattle.id_lookup.specs.Words.{EndsInDigest, IsFirstUnsorted, IsSortedIds, Kind, Sha1, Sha256, byte_len_of, digits_of, is_up_to}
 use Rattle.pack_index.specs.declared.error.Error.{Error}
-use Rattle.pack_index.specs.declared.error.Error.TheVariants.{BadMagic, BadVersion, LongOutOfOrder, NamesFall, NoOffset, OffsetInHeader, OffsetTooHigh, OtherKind, SpareLong, TooShort, Version1, WrongChecksum, WrongCount, WrongLength}
-use Rattle.pack_index.specs.declared.names.Names.{Names}
-use Rattle.pack_index.specs.declared.names.Names.TheVariants as lists
+use Rattle.pack_index.specs.declared.error.Error.TheVariants.{BadMagic, BadVersion, LongOutOfOrder, IdsFall, NoOffset, OffsetInHeader, OffsetTooHigh, OtherKind, SpareLong, TooShort, Version1, WrongChecksum, WrongCount, WrongLength}
+use Rattle.pack_index.specs.declared.digests.SortedDigests.{SortedDigests}
+use Rattle.pack_index.specs.declared.digests.SortedDigests.TheVariants as lists
 
 -- each number below n is P
 abbrev pub Each : (ℕ → Type 0) → ℕ → Type 0
@@ -36,8 +36,8 @@ abbrev pub min_len : Kind → ℕ
 min_len kind = counts_len + 2 * byte_len_of kind
 
 -- where the ids begin, after the magic number, the version and the fan-out table
-abbrev pub names_start : ℕ
-names_start = 1032
+abbrev pub ids_start : ℕ
+ids_start = 1032
 
 -- the smallest word of the table of offsets that stands for an 8-byte offset: its highest bit is set
 abbrev pub long_word : ℕ
@@ -57,11 +57,11 @@ word_at bytes at = from_be_bytes w32 (slice_index bytes at ∷ slice_index bytes
 
 -- the number of objects: the last entry of the fan-out table
 abbrev pub num_objects : List ℕ → ℕ
-num_objects bytes = word_at bytes (names_start - 4)
+num_objects bytes = word_at bytes (ids_start - 4)
 
 -- where the CRCs begin, after the ids
 abbrev pub crc_table_start : Kind → List ℕ → ℕ
-crc_table_start kind bytes = names_start + byte_len_of kind * num_objects bytes
+crc_table_start kind bytes = ids_start + byte_len_of kind * num_objects bytes
 
 -- where the offsets begin
 abbrev pub offset_table_start : Kind → List ℕ → ℕ
@@ -69,7 +69,7 @@ offset_table_start kind bytes = crc_table_start kind bytes + 4 * num_objects byt
 
 -- where the 8-byte offsets begin, after the offsets of `count` objects
 abbrev pub long_start : Kind → ℕ → ℕ
-long_start kind count = names_start + byte_len_of kind * count + 4 * count + 4 * count
+long_start kind count = ids_start + byte_len_of kind * count + 4 * count + 4 * count
 
 -- where they begin in an index
 abbrev pub long_table_start : Kind → List ℕ → ℕ
@@ -84,8 +84,8 @@ abbrev pub digest_at : Kind → List ℕ → ℕ
 digest_at kind bytes = length bytes - byte_len_of kind
 
 -- the ids of the objects, each as its digits
-abbrev pub names_in : Kind → List ℕ → List (List ℕ)
-names_in kind bytes = digests_in kind (slice_range bytes names_start (crc_table_start kind bytes))
+abbrev pub ids_in : Kind → List ℕ → List (List ℕ)
+ids_in kind bytes = digests_in kind (slice_range bytes ids_start (crc_table_start kind bytes))
 
 -- the CRC of the packed bytes of an object
 abbrev pub crc_in : Kind → List ℕ → ℕ → ℕ
@@ -137,7 +137,7 @@ HasTables kind bytes = FillsBytes kind (num_objects bytes) (length bytes)
 
 -- the fan-out entry of a byte is the number of ids with at most that first byte
 abbrev pub HasCount : Kind → List ℕ → ℕ → Type 0
-HasCount kind bytes b = word_at bytes (8 + 4 * b) ≡ count_by (is_up_to b) (names_in kind bytes)
+HasCount kind bytes b = word_at bytes (8 + 4 * b) ≡ count_by (is_up_to b) (ids_in kind bytes)
 
 -- the fan-out table is right: each entry is the number of ids with at most its first byte
 abbrev pub HasCounts : Kind → List ℕ → Type 0
@@ -164,10 +164,10 @@ abbrev pub IsSigned : Kind → List ℕ → ℕ → Type 0
 IsSigned kind bytes k = offset_in kind bytes k < 2 ^ 63
 
 -- the ids are sorted, and the fan-out table is right. No id is below the previous one; one may occur twice
-pub record HasNames (kind : Kind) (bytes : List ℕ) : Type 0 where
+pub record HasIds (kind : Kind) (bytes : List ℕ) : Type 0 where
   pub head : HasHead kind bytes
   pub tables : HasTables kind bytes
-  pub sorted : IsSortedIds (names_in kind bytes)
+  pub sorted : IsSortedIds (ids_in kind bytes)
   pub counts : HasCounts kind bytes
 
 -- each object has an offset, and the 8-byte ones are used in the order of objects
@@ -180,14 +180,14 @@ pub record HasOffsets (kind : Kind) (bytes : List ℕ) : Type 0 where
 
 -- the bytes are a pack index whose ids are of the kind, and end in the digest of all before it
 pub record IsPackIndex (kind : Kind) (bytes : List ℕ) : Type 0 where
-  pub names : HasNames kind bytes
+  pub ids : HasIds kind bytes
   pub offsets : HasOffsets kind bytes
   pub checksum : EndsInDigest kind bytes
 
 -- The ids of a pack index, as a sorted list of digests of either kind.
 
 -- what contracts see of them: their digits
-abbrev pub list_of : Names → List (List ℕ)
+abbrev pub list_of : SortedDigests → List (List ℕ)
 list_of (lists.Sha1 ids) = ids
 list_of (lists.Sha256 ids) = ids
 
@@ -225,22 +225,22 @@ IsHeadFault kind first len _ = ⊥
 abbrev pub IsFault : Kind → List ℕ → Error → Type 0
 IsFault kind bytes (OtherKind other) = ⊥
 IsFault kind bytes WrongLength = HasHead kind bytes × ¬ HasTables kind bytes
-IsFault kind bytes (NamesFall at) = HasHead kind bytes × HasTables kind bytes × IsFirstUnsorted (names_in kind bytes) at
+IsFault kind bytes (IdsFall at) = HasHead kind bytes × HasTables kind bytes × IsFirstUnsorted (ids_in kind bytes) at
 IsFault kind bytes (WrongCount b) =
-    HasHead kind bytes × HasTables kind bytes × IsSortedIds (names_in kind bytes) × IsFirstNot (HasCount kind bytes) 256 b
-IsFault kind bytes (NoOffset at) = HasNames kind bytes × IsFirstNot (HasOffset kind bytes) (num_objects bytes) at
+    HasHead kind bytes × HasTables kind bytes × IsSortedIds (ids_in kind bytes) × IsFirstNot (HasCount kind bytes) 256 b
+IsFault kind bytes (NoOffset at) = HasIds kind bytes × IsFirstNot (HasOffset kind bytes) (num_objects bytes) at
 IsFault kind bytes (LongOutOfOrder at) =
-    HasNames kind bytes × Each (HasOffset kind bytes) (num_objects bytes) × IsFirstNot (IsNextLong kind bytes) (num_objects bytes) at
+    HasIds kind bytes × Each (HasOffset kind bytes) (num_objects bytes) × IsFirstNot (IsNextLong kind bytes) (num_objects bytes) at
 IsFault kind bytes (SpareLong number) =
-    HasNames kind bytes × Each (HasOffset kind bytes) (num_objects bytes) × Each (IsNextLong kind bytes) (num_objects bytes)
+    HasIds kind bytes × Each (HasOffset kind bytes) (num_objects bytes) × Each (IsNextLong kind bytes) (num_objects bytes)
     × (number ≡ longs_before kind bytes (num_objects bytes)) × ¬ HasNoSpare kind bytes
 IsFault kind bytes (OffsetInHeader at) =
-    HasNames kind bytes × Each (HasOffset kind bytes) (num_objects bytes) × Each (IsNextLong kind bytes) (num_objects bytes) × HasNoSpare kind bytes
+    HasIds kind bytes × Each (HasOffset kind bytes) (num_objects bytes) × Each (IsNextLong kind bytes) (num_objects bytes) × HasNoSpare kind bytes
     × IsFirstNot (IsPastHeader kind bytes) (num_objects bytes) at
 IsFault kind bytes (OffsetTooHigh at) =
-    HasNames kind bytes × Each (HasOffset kind bytes) (num_objects bytes) × Each (IsNextLong kind bytes) (num_objects bytes) × HasNoSpare kind bytes
+    HasIds kind bytes × Each (HasOffset kind bytes) (num_objects bytes) × Each (IsNextLong kind bytes) (num_objects bytes) × HasNoSpare kind bytes
     × Each (IsPastHeader kind bytes) (num_objects bytes) × IsFirstNot (IsSigned kind bytes) (num_objects bytes) at
-IsFault kind bytes WrongChecksum = HasNames kind bytes × HasOffsets kind bytes × ¬ EndsInDigest kind bytes
+IsFault kind bytes WrongChecksum = HasIds kind bytes × HasOffsets kind bytes × ¬ EndsInDigest kind bytes
 IsFault kind bytes error = IsHeadFault kind bytes (length bytes) error
 
 -- why bytes are rejected as a pack index of the kind: they are one of the other kind and none of this, or they are of neither and this is the first fault

@@ -7,7 +7,7 @@ ghost use Rattle.std.specs.Ordering.{is_lt, nat_cmp};
 ghost use Rattle.id_lookup.specs.Words.{IsSortedIds, byte_len_of, hex_len_of, id_digits, id_kind, least_hex_len, matches, oid_digits};
 ghost use Rattle.pack_index.specs.Format.{IsFirstIndexOf, digests_in};
 
-use crate::names::{Names, all_digits};
+use crate::digests::{SortedDigests, all_digits};
 use gix_hash::{Kind, ObjectId, Prefix, oid};
 use id_lookup::{Id, Run, find_assuming_sorted_near, laws};
 use std::alloc::{AllocError, Allocator};
@@ -20,7 +20,7 @@ use std::marker::Model;
 ///
 /// ```
 /// let bucket = LazyFile::open(idx, Kind::Sha1)?.part(rt.alloc(), &prefix, 32)?;
-/// println!(rt; "{} bytes of names", bucket.names().len())?;
+/// println!(rt; "{} bytes of ids", bucket.ids().len())?;
 /// ```
 #[derive(Drop)]
 pub struct Bucket<A: Allocator> {
@@ -40,14 +40,14 @@ impl<A: Allocator> Model for Bucket<A> {
     ghost use Rattle.std.specs.Prelude.{◌≡◌, ◌*◌, IsTrue, length};
     ghost use Rattle.id_lookup.specs.Words.{IsSortedIds, byte_len_of};
     ghost use Rattle.pack_index.specs.Format.{digests_in};
-    ghost use Rattle.pack_index.specs.Lazy.{BucketNames};
+    ghost use Rattle.pack_index.specs.Lazy.{BucketIds};
 
-    ghost Value = { BucketNames };
+    ghost Value = { BucketIds };
 
     ghost view = { λ bucket. record {
       kind = bucket.kind;
       start = bucket.start;
-      names = digests_in bucket.kind bucket.table.items;
+      ids = digests_in bucket.kind bucket.table.items;
     } };
 
     ghost invariant = { λ bucket. (IsTrue bucket.is_sorted
@@ -63,11 +63,11 @@ impl<A: Allocator> Bucket<A> {
         ensures { result ≡ record {
           kind = kind;
           start = start;
-          names = digests_in kind table.items;
+          ids = digests_in kind table.items;
         } }
     {
         let are_several = table.len() > kind.len_in_bytes();
-        let is_sorted = are_several && Names::try_new(&table, kind).is_ok();
+        let is_sorted = are_several && SortedDigests::try_new(&table, kind).is_ok();
         Bucket {
             kind,
             start,
@@ -85,9 +85,9 @@ impl<A: Allocator> Bucket<A> {
     }
 
     /// The ids, one after the other: 20 or 32 bytes each, and no byte after them.
-    pub fn names(&self) -> &[u8]
-        ensures names { digests_in self.now.kind result.now ≡ self.now.names }
-        ensures len { length result.now ≡ byte_len_of self.now.kind * length self.now.names }
+    pub fn ids(&self) -> &[u8]
+        ensures ids { digests_in self.now.kind result.now ≡ self.now.ids }
+        ensures len { length result.now ≡ byte_len_of self.now.kind * length self.now.ids }
     {
         &self.table
     }
@@ -113,7 +113,7 @@ impl<A: Allocator> Bucket<A> {
     ) -> Result<(), AllocError>
         requires { length prefix.now.digits ≤ hex_len_of self.now.kind }
         ensures digits { OnOk result (map id_digits ids.new.items
-            ≡ map id_digits ids.old.items ++ matches prefix.now.digits self.now.names) }
+            ≡ map id_digits ids.old.items ++ matches prefix.now.digits self.now.ids) }
         ensures kinds { OnOk result (All (λ id. id_kind id ≡ self.now.kind) ids.old.items
             → All (λ id. id_kind id ≡ self.now.kind) ids.new.items) }
     {
@@ -141,16 +141,16 @@ impl<A: Allocator> Bucket<A> {
 
     // Whether they are several, and sorted.
     pub(crate) fn is_sorted(&self) -> bool
-        ensures { IsTrue result → IsSortedIds self.now.names }
+        ensures { IsTrue result → IsSortedIds self.now.ids }
     {
         self.is_sorted
     }
 
     // The first position of an id among them.
     pub(crate) fn position(&self, id: oid<'_>) -> Option<usize>
-        ensures { MatchOption result ((k : ℕ) → k < length self.now.names
-            → slice_index_or self.now.names k [] ≢ oid_digits id.entry)
-            (IsFirstIndexOf self.now.names (oid_digits id.entry)) }
+        ensures { MatchOption result ((k : ℕ) → k < length self.now.ids
+            → slice_index_or self.now.ids k [] ≢ oid_digits id.entry)
+            (IsFirstIndexOf self.now.ids (oid_digits id.entry)) }
     {
         if id.kind() != self.kind {
             return None;
@@ -173,10 +173,10 @@ fn position_in<I: Id>(ids: &[I], id: oid<'_>, is_sorted: bool, near: &Cell<usize
     requires enough_digits { length (oid_digits id) ≤ least_hex_len (map I.digits ids.now) }
     requires long { (k : ℕ) → k < length (map I.digits ids.now)
         → length (slice_index_or (map I.digits ids.now) k []) ≡ length (oid_digits id) }
-    ensures { let names = map I.digits ids.now in
-        MatchOption result ((k : ℕ) → k < length names
-        → slice_index_or names k [] ≢ oid_digits id.entry)
-        (IsFirstIndexOf names (oid_digits id.entry)) }
+    ensures { let all = map I.digits ids.now in
+        MatchOption result ((k : ℕ) → k < length all
+        → slice_index_or all k [] ≢ oid_digits id.entry)
+        (IsFirstIndexOf all (oid_digits id.entry)) }
 {
     if !is_sorted {
         return first_index(ids, id);
@@ -223,10 +223,10 @@ fn is_below<I: Id>(ids: &[I], at: usize, id: oid<'_>) -> bool
 
 // The first position of an id in a list.
 fn first_index<I: Id>(ids: &[I], id: oid<'_>) -> Option<usize>
-    ensures { let names = map I.digits ids.now in
-        MatchOption result ((k : ℕ) → k < length names
-        → slice_index_or names k [] ≢ oid_digits id.entry)
-        (IsFirstIndexOf names (oid_digits id.entry)) }
+    ensures { let all = map I.digits ids.now in
+        MatchOption result ((k : ℕ) → k < length all
+        → slice_index_or all k [] ≢ oid_digits id.entry)
+        (IsFirstIndexOf all (oid_digits id.entry)) }
 {
     for at in 0..ids.len() {
         if is_at(ids, at, id) {

@@ -2,13 +2,12 @@
 
 ghost use Rattle.std.specs.Prelude.{◌≡◌, ◌↔◌, ◌<◌, ◌≤◌, IfErr, IsTrue, MatchOption, OnOk, length};
 ghost use Rattle.id_lookup.specs.Words.{IsFanOut};
-ghost use Rattle.pack_index.specs.Format.{BeginsIndex, Each, FillsBytes, HasCount, HasCounts, HasHead, HasOffset, HasTables, IsFault, IsFirstNot, IsHeadFault, min_len, names_in, names_start, num_objects, other_than, version_1_len};
-ghost use Rattle.pack_index.specs.Lazy.{Rises};
+ghost use Rattle.pack_index.specs.Format.{BeginsIndex, Each, FillsBytes, HasCount, HasCounts, HasHead, HasOffset, HasTables, IsFault, IsFirstNot, IsHeadFault, min_len, ids_in, ids_start, num_objects, other_than, version_1_len};
+ghost use Rattle.pack_index.specs.Lazy.{Rises, fan_out};
 
 use crate::error::Error;
 use crate::words::{
-    LONG, NAMES_START, fan_out_entry, long_table_start, num_objects, offset_word, tables_end,
-    word_at,
+    IDS_START, LONG, fan_out_entry, long_table_start, num_objects, offset_word, tables_end, word_at,
 };
 use gix_hash::Kind;
 use id_lookup::FanOut;
@@ -41,7 +40,7 @@ pub fn check_tables(bytes: &[u8], kind: Kind) -> Result<(), Error>
 // Checks the first of `len` bytes, at least the head of an index, and that its tables fill them.
 // The error is the first one that holds of those from `OtherKind` to `WrongLength`.
 pub(crate) fn check_head(first: &[u8], kind: Kind, len: u64) -> Result<(), Error>
-    requires head { names_start ≤ length first.now }
+    requires head { ids_start ≤ length first.now }
     requires enough { min_len kind ≤ len }
     ensures head { OnOk result (BeginsIndex kind first.now len) }
     ensures tables { OnOk result (FillsBytes kind (num_objects first.now) len) }
@@ -71,15 +70,15 @@ pub(crate) fn check_head(first: &[u8], kind: Kind, len: u64) -> Result<(), Error
 
 // How many bytes an index of version 1 has, by its last fan-out entry.
 fn version_1_len(bytes: &[u8], kind: Kind) -> usize
-    requires { names_start ≤ length bytes.now }
+    requires { ids_start ≤ length bytes.now }
     ensures { result ≡ version_1_len kind bytes.now }
 {
-    let count = word_at(bytes, NAMES_START - 12) as usize;
-    let names = match kind {
+    let count = word_at(bytes, IDS_START - 12) as usize;
+    let ids = match kind {
         Kind::Sha1 => 20 * count,
         Kind::Sha256 => 32 * count,
     };
-    COUNTS_LEN + names + 4 * count + 2 * kind.len_in_bytes()
+    COUNTS_LEN + ids + 4 * count + 2 * kind.len_in_bytes()
 }
 
 // The other kind.
@@ -95,7 +94,7 @@ pub(crate) fn other_than(kind: Kind) -> Kind
 // Whether the tables of as many objects as the last fan-out entry says, and the digests, fill `len`
 // bytes.
 fn fills_bytes(first: &[u8], kind: Kind, len: u64) -> bool
-    requires { names_start ≤ length first.now }
+    requires { ids_start ≤ length first.now }
     ensures { IsTrue result ↔ FillsBytes kind (num_objects first.now) len }
 {
     let least = long_table_start(first, kind) as u64 + 2 * kind.len_in_bytes() as u64;
@@ -106,7 +105,7 @@ fn fills_bytes(first: &[u8], kind: Kind, len: u64) -> bool
 // The first byte whose fan-out entry is wrong.
 pub(crate) fn first_wrong_count(bytes: &[u8], fan_out: &FanOut, kind: Kind) -> Option<u8>
     requires tables { HasTables kind bytes.now }
-    requires fan_out { IsFanOut fan_out.now (names_in kind bytes.now) }
+    requires fan_out { IsFanOut fan_out.now (ids_in kind bytes.now) }
     ensures { MatchOption result (HasCounts kind bytes.now)
         (IsFirstNot (HasCount kind bytes.now) 256) }
 {
@@ -120,8 +119,9 @@ pub(crate) fn first_wrong_count(bytes: &[u8], fan_out: &FanOut, kind: Kind) -> O
 
 // The first byte whose fan-out entry is below the one before it.
 pub(crate) fn first_fall(head: &[u8]) -> Option<u8>
-    requires { names_start ≤ length head.now }
-    ensures { MatchOption result (Each (Rises head.now) 256) (IsFirstNot (Rises head.now) 256) }
+    requires { ids_start ≤ length head.now }
+    ensures { MatchOption result (Each (Rises (fan_out head.now)) 256)
+        (IsFirstNot (Rises (fan_out head.now)) 256) }
 {
     let mut before = 0;
     for byte in 0..=255 {

@@ -36,7 +36,7 @@ pub enum Error {
     WrongLength,
     /// The id at this position is the first that is below the previous one.
     #[error("the id at position {0} is below the one before it")]
-    NamesFall(usize),
+    IdsFall(usize),
     /// The fan-out entry of this byte is the first that is not the number of ids with at most that
     /// first byte. So if entries fall, one is wrong.
     #[error("the fan-out entry of the first byte {0:02x} is wrong")]

@@ -1,14 +1,14 @@
 //! A pack index over its bytes.
 
 ghost use Rattle.std.specs.Prelude.{◌≡◌, ◌≢◌, ◌↔◌, ◌+◌, ◌<◌, ℕ, [], Err, IfErr, IfOk, IsOk, MatchOption, length, slice_index_or, slice_range, IfSome, IsNone, List, OnOk, HoldsAt};
-ghost use Rattle.id_lookup.specs.Words.{IsAnswer, IsRun, IsShortestName, oid_bytes, oid_digits};
-ghost use Rattle.pack_index.specs.Format.{IsFault, IsFirstIndexOf, IsPackIndex, IsRefusal, crc_in, digest_at, names_in, offset_in, other_than, tables_end};
+ghost use Rattle.id_lookup.specs.Words.{IsAnswer, IsRun, IsShortestAbbreviation, oid_bytes, oid_digits};
+ghost use Rattle.pack_index.specs.Format.{IsFault, IsFirstIndexOf, IsPackIndex, IsRefusal, crc_in, digest_at, ids_in, offset_in, other_than, tables_end};
 
 use crate::checks::{check_tables, first_wrong_count, other_than};
+use crate::digests::{SortedDigests, all_digits};
 use crate::error::Error;
-use crate::names::{Names, all_digits};
 use crate::offsets::check_offsets;
-use crate::words::{NAMES_START, crc_in, crc_table_start, digest_at, offset_in, tables_end};
+use crate::words::{IDS_START, crc_in, crc_table_start, digest_at, offset_in, tables_end};
 use gix_hash::{Kind, Prefix, ends_in_digest, oid};
 use id_lookup::{Answer, FanOut, Run, laws};
 use std::marker::Model;
@@ -25,7 +25,7 @@ use std::marker::Model;
 pub struct File<'a> {
     bytes: &'a [u8],
     kind: Kind,
-    names: Names<'a>,
+    ids: SortedDigests<'a>,
     // The file's own counts.
     fan_out: FanOut,
 }
@@ -33,15 +33,15 @@ pub struct File<'a> {
 impl<'a> Model for File<'a> {
     ghost use Rattle.std.specs.Prelude.{◌≡◌};
     ghost use Rattle.id_lookup.specs.Words.{IsFanOut};
-    ghost use Rattle.pack_index.specs.Format.{IndexFile, IsPackIndex, list_of, names_in};
+    ghost use Rattle.pack_index.specs.Format.{IndexFile, IsPackIndex, list_of, ids_in};
 
     ghost Value = { IndexFile };
 
     ghost view = { λ file. record { kind = file.kind; bytes = file.bytes.now } };
 
     ghost invariant = { λ file. IsPackIndex file.kind file.bytes.now
-        × (list_of file.names ≡ names_in file.kind file.bytes.now)
-        × IsFanOut file.fan_out (names_in file.kind file.bytes.now) };
+        × (list_of file.ids ≡ ids_in file.kind file.bytes.now)
+        × IsFanOut file.fan_out (ids_in file.kind file.bytes.now) };
 }
 
 impl<'a> File<'a> {
@@ -71,11 +71,12 @@ impl<'a> File<'a> {
         ensures err { IfErr result (IsFault kind bytes.now) }
     {
         check_tables(bytes, kind)?;
-        let names = match Names::try_new(&bytes[NAMES_START..crc_table_start(bytes, kind)], kind) {
-            Ok(names) => names,
-            Err(unsorted) => return Err(Error::NamesFall(unsorted.at)),
+        let table = &bytes[IDS_START..crc_table_start(bytes, kind)];
+        let ids = match SortedDigests::try_new(table, kind) {
+            Ok(ids) => ids,
+            Err(unsorted) => return Err(Error::IdsFall(unsorted.at)),
         };
-        let fan_out = names.fan_out();
+        let fan_out = ids.fan_out();
         if let Some(byte) = first_wrong_count(bytes, &fan_out, kind) {
             return Err(Error::WrongCount(byte));
         }
@@ -86,7 +87,7 @@ impl<'a> File<'a> {
         Ok(File {
             bytes,
             kind,
-            names,
+            ids,
             fan_out,
         })
     }
@@ -101,23 +102,23 @@ impl<'a> File<'a> {
 
     /// The number of objects.
     pub fn num_objects(&self) -> usize
-        ensures { result ≡ length (names_in self.now.kind self.now.bytes) }
+        ensures { result ≡ length (ids_in self.now.kind self.now.bytes) }
     {
-        self.names.len()
+        self.ids.len()
     }
 
     /// The id of object `at`, which must be below `num_objects()`.
     pub fn oid_at_index(&self, at: usize) -> oid<'_>
-        requires { at < length (names_in self.now.kind self.now.bytes) }
+        requires { at < length (ids_in self.now.kind self.now.bytes) }
         ensures { HoldsAt (λ id. oid_digits result ≡ id)
-            (names_in self.now.kind self.now.bytes) at }
+            (ids_in self.now.kind self.now.bytes) at }
     {
-        self.names.get(at)
+        self.ids.get(at)
     }
 
     /// The offset of object `at` in the pack, in bytes. `at` must be below `num_objects()`.
     pub fn pack_offset_at_index(&self, at: usize) -> u64
-        requires { at < length (names_in self.now.kind self.now.bytes) }
+        requires { at < length (ids_in self.now.kind self.now.bytes) }
         ensures { result ≡ offset_in self.now.kind self.now.bytes at }
     {
         offset_in(self.bytes, self.kind, at)
@@ -125,7 +126,7 @@ impl<'a> File<'a> {
 
     /// The CRC-32 of object `at`, as stored in the pack. `at` must be below `num_objects()`.
     pub fn crc32_at_index(&self, at: usize) -> u32
-        requires { at < length (names_in self.now.kind self.now.bytes) }
+        requires { at < length (ids_in self.now.kind self.now.bytes) }
         ensures { result ≡ crc_in self.now.kind self.now.bytes at }
     {
         crc_in(self.bytes, self.kind, at)
@@ -146,11 +147,11 @@ impl<'a> File<'a> {
     /// ```
     pub fn find_prefix(&self, prefix: &Prefix) -> Run
         requires { prefix.now.kind ≡ self.now.kind }
-        ensures { IsRun prefix.now (names_in self.now.kind self.now.bytes) result }
+        ensures { IsRun prefix.now (ids_in self.now.kind self.now.bytes) result }
     {
         // Its contract says that the prefix has at most as many digits as its kind.
         let _hex_len = prefix.hex_len();
-        self.names.find(&self.fan_out, prefix)
+        self.ids.find(&self.fan_out, prefix)
     }
 
     /// Which ids begin with a prefix: none, one, or a run of more. The prefix must have the index's
@@ -166,7 +167,7 @@ impl<'a> File<'a> {
     /// ```
     pub fn lookup_prefix(&self, prefix: &Prefix) -> Answer
         requires { prefix.now.kind ≡ self.now.kind }
-        ensures { IsAnswer prefix.now (names_in self.now.kind self.now.bytes) result }
+        ensures { IsAnswer prefix.now (ids_in self.now.kind self.now.bytes) result }
     {
         let run = self.find_prefix(prefix);
         match run.end - run.start {
@@ -179,10 +180,10 @@ impl<'a> File<'a> {
     /// The position of an id, the first one if it occurs more than once, or `None` if it does not
     /// occur.
     pub fn lookup(&self, id: oid<'_>) -> Option<usize>
-        ensures { let names = names_in self.now.kind self.now.bytes in
-            MatchOption result ((k : ℕ) → k < length names
-            → slice_index_or names k [] ≢ oid_digits id.entry)
-            (IsFirstIndexOf names (oid_digits id.entry)) }
+        ensures { let ids = ids_in self.now.kind self.now.bytes in
+            MatchOption result ((k : ℕ) → k < length ids
+            → slice_index_or ids k [] ≢ oid_digits id.entry)
+            (IsFirstIndexOf ids (oid_digits id.entry)) }
     {
         if id.kind() != self.kind {
             return None;
@@ -202,22 +203,22 @@ impl<'a> File<'a> {
     /// ```
     /// let file = File::try_new(content, Kind::Sha1)?;
     /// for at in 0..file.num_objects() {
-    ///     if let Some(name) = file.abbreviate(at) {
-    ///         println!(rt; "{name} {}", file.oid_at_index(at))?;
+    ///     if let Some(short) = file.abbreviate(at) {
+    ///         println!(rt; "{short} {}", file.oid_at_index(at))?;
     ///     }
     /// }
     /// ```
     pub fn abbreviate(&self, at: usize) -> Option<Prefix>
-        requires { at < length (names_in self.now.kind self.now.bytes) }
-        ensures kind { IfSome result (λ name. name.kind ≡ self.now.kind) }
-        ensures name { IfSome result (λ name. IsShortestName
-            (names_in self.now.kind self.now.bytes) at name.digits) }
-        ensures run { IfSome result (λ name. IsRun name (names_in self.now.kind self.now.bytes)
+        requires { at < length (ids_in self.now.kind self.now.bytes) }
+        ensures kind { IfSome result (λ short. short.kind ≡ self.now.kind) }
+        ensures name { IfSome result (λ short. IsShortestAbbreviation
+            (ids_in self.now.kind self.now.bytes) at short.digits) }
+        ensures run { IfSome result (λ short. IsRun short (ids_in self.now.kind self.now.bytes)
             (record { start = at; end = at + 1 })) }
-        ensures none { IsNone result → (name : List ℕ)
-            → ¬ IsShortestName (names_in self.now.kind self.now.bytes) at name }
+        ensures none { IsNone result → (short : List ℕ)
+            → ¬ IsShortestAbbreviation (ids_in self.now.kind self.now.bytes) at short }
     {
-        self.names.abbreviate(at)
+        self.ids.abbreviate(at)
     }
 
     /// The digest of the pack, as it is stored in the index.

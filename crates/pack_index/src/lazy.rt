@@ -1,10 +1,10 @@
 //! Pack indexes that are read at positions, and not whole.
 
-ghost use Rattle.std.specs.Prelude.{◌≡◌, ◌≢◌, ◌↔◌, ◌+◌, ◌-◌, ◌*◌, ◌<◌, ◌≤◌, ℕ, [], All, IfErr, IfOk, IfSome, IsTrue, List, MatchOption, OnOk, Some, length, slice_index_or};
+ghost use Rattle.std.specs.Prelude.{◌≡◌, ◌≢◌, ◌↔◌, ◌-◌, ◌*◌, ◌<◌, ◌≤◌, ℕ, [], All, IfErr, IfOk, IfSome, IsTrue, List, MatchOption, Some, length, slice_index_or, slice_range};
+ghost use Rattle.std.specs.Option.{ForSome};
 ghost use Rattle.id_lookup.specs.Words.{byte_len_of, first_byte_of, has_first_byte, hex_len_of, oid_digits};
-ghost use Rattle.pack_index.specs.Format.{Each, HasCounts, HasHead, HasOffset, HasTables, IsFirstIndexOf, digests_in, names_in, num_objects, offset_in, offset_word};
-ghost use Rattle.pack_index.specs.Lazy.{AreBetween, HaveFirstByte, IfKnown, IsBucketFault, IsFirstCounted, IsRunFault, IsNarrowed, IsOffsetFault, IsOpenFault, IsOrdered, IsPartOf, IsReadOrMemory, Rises, bucket_end, bucket_start};
-ghost use Rattle.streams.specs.Streams.{IsReadAt};
+ghost use Rattle.pack_index.specs.Format.{Each, HasHead, HasTables, IsFirstIndexOf, digests_in, offset_word};
+ghost use Rattle.pack_index.specs.Lazy.{AreBetween, HaveRightCounts, HaveFirstByte, IsBucketFault, IsNarrowed, IsOffsetFault, IsOpenFault, IsOrdered, IsPartOf, IsReadOrMemory, IsRunFault, Rises, bucket_start, fan_out, position_of, seen};
 
 use crate::bucket::Bucket;
 use crate::checks::{COUNTS_LEN, check_head, first_fall};
@@ -12,8 +12,8 @@ use crate::error::Error;
 use crate::lazy_error::LazyError;
 use crate::search::narrowed;
 use crate::words::{
-    LONG, NAMES_START, bucket_range, long_table_start, long_word_at, num_objects,
-    offset_table_start, word_at,
+    IDS_START, LONG, bucket_range, long_table_start, long_word_at, num_objects, offset_table_start,
+    word_at,
 };
 use gix_hash::{Kind, Prefix, oid};
 use id_lookup::{Id, Run};
@@ -37,7 +37,7 @@ pub struct LazyFile<S: ReadAt> {
     source: S,
     kind: Kind,
     // The magic number, the version and the fan-out table, whose entries do not fall.
-    head: [u8; NAMES_START],
+    head: [u8; IDS_START],
     // Where the 8-byte offsets end.
     end: u64,
     // For each first byte whether the ids that are counted with it were read, have it, and are
@@ -46,9 +46,10 @@ pub struct LazyFile<S: ReadAt> {
 }
 
 impl<S: ReadAt> Model for LazyFile<S> {
-    ghost use Rattle.std.specs.Prelude.{◌≡◌, ℕ, IsTrue, List, Some, false, slice_index_or};
+    ghost use Rattle.std.specs.Prelude.{◌≡◌, IsTrue, false, slice_index_or};
+    ghost use Rattle.std.specs.Option.{ForSome};
     ghost use Rattle.pack_index.specs.Format.{Each, HasTables, num_objects, tables_end};
-    ghost use Rattle.pack_index.specs.Lazy.{IsOrdered, LazyIndex, Rises};
+    ghost use Rattle.pack_index.specs.Lazy.{IsOrdered, LazyIndex, Rises, fan_out, tables_in};
     ghost use Rattle.streams.specs.Streams.{IsReadAt};
 
     ghost Value = { LazyIndex };
@@ -61,12 +62,11 @@ impl<S: ReadAt> Model for LazyFile<S> {
       can_fail = S.can_fail file.source;
     } };
 
-    ghost invariant = { λ file. Each (Rises file.head) 256
-        × ((bytes : List ℕ) → S.content file.source ≡ Some bytes
-        → IsReadAt bytes 0 file.head × HasTables file.kind bytes
-        × (file.end ≡ tables_end file.kind bytes)
+    ghost invariant = { λ file. Each (Rises (fan_out file.head)) 256
+        × ForSome (S.content file.source) (λ bytes. IsReadAt bytes 0 file.head
+        × HasTables file.kind bytes × (file.end ≡ tables_end file.kind bytes)
         × Each (λ byte. IsTrue (slice_index_or file.ordered byte false)
-        → IsOrdered file.kind bytes byte) 256) };
+        → IsOrdered (tables_in file.kind bytes) byte) 256) };
 }
 
 impl<S: ReadAt + Drop> LazyFile<S> {
@@ -80,18 +80,17 @@ impl<S: ReadAt + Drop> LazyFile<S> {
         ensures content { IfOk result (λ file. file.content ≡ S.content source) }
         ensures path { IfOk result (λ file. file.path ≡ S.path source) }
         ensures reads { IfOk result (λ file. file.can_fail ≡ S.can_fail source) }
-        ensures head { IfOk result (λ file. (bytes : List ℕ) → S.content source ≡ Some bytes
-            → HasHead kind bytes) }
-        ensures counts { IfOk result (λ file. (bytes : List ℕ) → S.content source ≡ Some bytes
-            → Each (Rises bytes) 256) }
-        ensures err { IfErr result (λ e. (bytes : List ℕ) → S.content source ≡ Some bytes
-            → IsOpenFault (S.can_fail source) kind bytes e) }
+        ensures head { IfOk result (λ file. ForSome (S.content source) (HasHead kind)) }
+        ensures counts { IfOk result (λ file. ForSome (S.content source) (λ bytes.
+            Each (Rises (fan_out bytes)) 256)) }
+        ensures err { IfErr result (λ e. ForSome (S.content source) (λ bytes.
+            IsOpenFault (S.can_fail source) kind bytes e)) }
     {
         let len = source.len()?;
         if len < (COUNTS_LEN + 2 * kind.len_in_bytes()) as u64 {
             return Err(LazyError::Head(Error::TooShort));
         }
-        let mut head = [0; NAMES_START];
+        let mut head = [0; IDS_START];
         source.read_exact_at(&mut head, 0)?;
         check_head(&head, kind, len)?;
         if let Some(byte) = first_fall(&head) {
@@ -117,8 +116,8 @@ impl<S: ReadAt + Drop> LazyFile<S> {
     /// The number of objects, as the last fan-out entry says.
     pub fn num_objects(&self) -> u32
         ensures count { result ≡ self.now.count }
-        ensures bytes { IfKnown (λ bytes. result ≡ num_objects bytes) self.now }
-        ensures tables { IfKnown (HasTables self.now.kind) self.now }
+        ensures ids { ForSome (seen self.now).tables (λ tables. result ≡ length tables.ids) }
+        ensures tables { ForSome self.now.content (HasTables self.now.kind) }
     {
         num_objects(&self.head)
     }
@@ -127,7 +126,7 @@ impl<S: ReadAt + Drop> LazyFile<S> {
     /// read before and are sorted, and they are more than `few`.
     pub fn reads_part(&self, byte: u8, few: usize) -> bool
         ensures { IsTrue result
-            → IfKnown (λ bytes. IsOrdered self.now.kind bytes byte) self.now }
+            → ForSome (seen self.now).tables (λ tables. IsOrdered tables byte) }
     {
         let run = self.run_of(byte);
         run.end - run.start > few && self.ordered[usize::from(byte)]
@@ -150,9 +149,9 @@ impl<S: ReadAt + Drop> LazyFile<S> {
         requires fits { length prefix.now.digits ≤ hex_len_of self.old.kind }
         requires enough { 2 ≤ length prefix.now.digits }
         ensures same { self.new ≡ self.old }
-        ensures part { IfOk result (IsPartOf self.old prefix.now.digits) }
-        ensures err { IfErr result (λ e. IfKnown (λ bytes. IsBucketFault self.old.can_fail
-            self.old.kind bytes (first_byte_of prefix.now.digits) e) self.old) }
+        ensures part { IfOk result (IsPartOf (seen self.old) prefix.now.digits) }
+        ensures err { IfErr result (λ e. ForSome (seen self.old).tables (λ tables. IsBucketFault
+            self.old.can_fail tables (first_byte_of prefix.now.digits) e)) }
     {
         let byte = prefix.first_byte();
         if prefix.hex_len() == 2 || !self.reads_part(byte, few) {
@@ -167,19 +166,18 @@ impl<S: ReadAt + Drop> LazyFile<S> {
     /// it or for its first byte, and nothing is read. If they are not sorted, it is compared with
     /// each of them.
     pub fn lookup<A: Allocator>(&self, bucket: &Bucket<A>, id: oid<'_>) -> Option<u32>
-        requires { IsPartOf self.now (oid_digits id) bucket.now }
+        requires { IsPartOf (seen self.now) (oid_digits id) bucket.now }
         ensures in_range { IfSome result (λ at. at < self.now.count) }
-        ensures name { IfSome result (λ at. IfKnown (λ bytes.
-            slice_index_or (names_in self.now.kind bytes) at [] ≡ oid_digits id.entry) self.now) }
-        ensures found { IfKnown (λ bytes. HasCounts self.now.kind bytes
-            → let names = names_in self.now.kind bytes in
-            MatchOption result ((k : ℕ) → k < length names
-            → slice_index_or names k [] ≢ oid_digits id.entry)
-            (IsFirstIndexOf names (oid_digits id.entry))) self.now }
-        ensures counted { IfKnown (λ bytes. (at : ℕ) → (result ≡ Some at)
-            ↔ IsFirstCounted self.now.kind bytes (oid_digits id.entry) at) self.now }
+        ensures name { IfSome result (λ at. ForSome (seen self.now).tables (λ tables.
+            slice_index_or tables.ids at [] ≡ oid_digits id.entry)) }
+        ensures found { ForSome (seen self.now).tables (λ tables. HaveRightCounts tables
+            → MatchOption result ((k : ℕ) → k < length tables.ids
+            → slice_index_or tables.ids k [] ≢ oid_digits id.entry)
+            (IsFirstIndexOf tables.ids (oid_digits id.entry))) }
+        ensures counted { ForSome (seen self.now).tables (λ tables.
+            result ≡ position_of (oid_digits id.entry) tables) }
     {
-        // The contracts of these calls say how many names there are, and that the byte is one.
+        // The contracts of these calls say how many ids there are, and that the byte is one.
         let _count = self.num_objects();
         let _byte = id.first_byte();
         match bucket.position(id) {
@@ -193,11 +191,10 @@ impl<S: ReadAt + Drop> LazyFile<S> {
     /// `NoOffset`.
     pub fn pack_offset_at_index(&self, at: u32) -> Result<u64, LazyError>
         requires { at < self.now.count }
-        ensures has { OnOk result (IfKnown (λ bytes. HasOffset self.now.kind bytes at) self.now) }
-        ensures offset { IfOk result (λ offset. IfKnown (λ bytes.
-            offset ≡ offset_in self.now.kind bytes at) self.now) }
-        ensures err { IfErr result (λ e. IfKnown (λ bytes.
-            IsOffsetFault self.now.can_fail self.now.kind bytes at e) self.now) }
+        ensures offset { IfOk result (λ offset. ForSome (seen self.now).tables (λ tables.
+            tables.offset at ≡ Some offset)) }
+        ensures err { IfErr result (λ e. ForSome (seen self.now).tables (λ tables.
+            IsOffsetFault self.now.can_fail tables at e)) }
     {
         let word = self.read_offset_word(at)?;
         if word < LONG {
@@ -215,10 +212,10 @@ impl<S: ReadAt + Drop> LazyFile<S> {
     // What the table of offsets has for object `at`.
     fn read_offset_word(&self, at: u32) -> Result<u32, LazyError>
         requires { at < self.now.count }
-        ensures word { IfOk result (λ word. IfKnown (λ bytes.
-            word ≡ offset_word self.now.kind bytes at) self.now) }
-        ensures err { IfErr result (λ e. IfKnown (λ bytes.
-            IsOffsetFault self.now.can_fail self.now.kind bytes at e) self.now) }
+        ensures word { IfOk result (λ word. ForSome self.now.content (λ bytes.
+            word ≡ offset_word self.now.kind bytes at)) }
+        ensures err { IfErr result (λ e. ForSome (seen self.now).tables (λ tables.
+            IsOffsetFault self.now.can_fail tables at e)) }
     {
         let mut word = [0; 4];
         let start = offset_table_start(&self.head, self.kind) + 4 * at as usize;
@@ -228,10 +225,12 @@ impl<S: ReadAt + Drop> LazyFile<S> {
 
     // The positions of the ids with a first byte, by the fan-out table.
     fn run_of(&self, byte: u8) -> Run
-        ensures start { IfKnown (λ bytes. result.start ≡ bucket_start bytes byte) self.now }
-        ensures end { IfKnown (λ bytes. result.end ≡ bucket_end bytes byte) self.now }
+        ensures start { ForSome (seen self.now).tables (λ tables.
+            result.start ≡ bucket_start tables.up_to byte) }
+        ensures end { ForSome (seen self.now).tables (λ tables. result.end ≡ tables.up_to byte) }
         ensures in_order { result.start ≤ result.end }
         ensures inside { result.end ≤ self.now.count }
+        ensures ids { ForSome (seen self.now).tables (λ tables. result.end ≤ length tables.ids) }
     {
         bucket_range(&self.head, byte, byte)
     }
@@ -241,12 +240,10 @@ impl<S: ReadAt + Drop> LazyFile<S> {
     fn read_whole<A: Allocator>(&mut self, alloc: A, byte: u8) -> Result<Bucket<A>, LazyError>
         ensures same { self.new ≡ self.old }
         ensures part { IfOk result (λ bucket. (digits : List ℕ) → 2 ≤ length digits
-            → first_byte_of digits ≡ byte → IsPartOf self.old digits bucket) }
-        ensures err { IfErr result (λ e. IfKnown (λ bytes.
-            IsBucketFault self.old.can_fail self.old.kind bytes byte e) self.old) }
+            → first_byte_of digits ≡ byte → IsPartOf (seen self.old) digits bucket) }
+        ensures err { IfErr result (λ e. ForSome (seen self.old).tables (λ tables.
+            IsBucketFault self.old.can_fail tables byte e)) }
     {
-        // Its contract says how many names there are.
-        let _count = self.num_objects();
         let run = self.run_of(byte);
         let bucket = self.read_run(alloc, byte, &run)?;
         if bucket.is_sorted() {
@@ -261,12 +258,12 @@ impl<S: ReadAt + Drop> LazyFile<S> {
         requires { length prefix.now.digits ≤ hex_len_of self.now.kind }
         ensures in_order { IfOk result (λ part. part.start ≤ part.end) }
         ensures inside { IfOk result (λ part. part.end ≤ self.now.count) }
-        ensures all { IfOk result (λ part. IfKnown (λ bytes.
-            IsNarrowed self.now.kind bytes prefix.now.digits part) self.now) }
-        ensures err { IfErr result (λ e. IfKnown (λ _.
-            IsReadOrMemory self.now.can_fail e) self.now) }
+        ensures all { IfOk result (λ part. ForSome (seen self.now).tables (λ tables.
+            IsNarrowed tables prefix.now.digits part)) }
+        ensures err { IfErr result (λ e. ForSome (seen self.now).tables (λ _.
+            IsReadOrMemory self.now.can_fail e)) }
     {
-        // Its contract says how many names there are.
+        // Its contract says how many ids there are.
         let _count = self.num_objects();
         let run = self.run_of(prefix.first_byte());
         Ok(narrowed(&self.source, self.kind, prefix, run)?)
@@ -277,17 +274,17 @@ impl<S: ReadAt + Drop> LazyFile<S> {
     fn read_run<A: Allocator>(&self, alloc: A, byte: u8, run: &Run) -> Result<Bucket<A>, LazyError>
         requires in_order { run.now.start ≤ run.now.end }
         requires inside { run.now.end ≤ self.now.count }
-        ensures ids { IfOk result (AreBetween self.now byte run.now.start run.now.end) }
-        ensures err { IfErr result (λ e. IfKnown (λ bytes. IsRunFault self.now.can_fail
-            self.now.kind bytes byte run.now.start run.now.end e) self.now) }
+        ensures ids { IfOk result (AreBetween (seen self.now) byte
+            run.now.start run.now.end) }
+        ensures err { IfErr result (λ e. ForSome (seen self.now).tables (λ tables. IsRunFault
+            self.now.can_fail (slice_range tables.ids run.now.start run.now.end) byte e)) }
     {
-        // The contracts of these calls say how many names there are, and of which kind.
-        let _count = self.num_objects();
+        // Its contract says of which kind the ids are.
         let kind = self.object_hash();
         if run.start == run.end {
             return Ok(Bucket::new(Vec::new(alloc), kind, run.start));
         }
-        let table = self.read_names(alloc, run)?;
+        let table = self.read_ids(alloc, run)?;
         if !have_first_byte(&table, kind, byte) {
             return Err(LazyError::WrongCount(byte));
         }
@@ -295,15 +292,16 @@ impl<S: ReadAt + Drop> LazyFile<S> {
     }
 
     // The ids of a run, one after the other.
-    fn read_names<A: Allocator>(&self, alloc: A, run: &Run) -> Result<Vec<u8, A>, LazyError>
+    fn read_ids<A: Allocator>(&self, alloc: A, run: &Run) -> Result<Vec<u8, A>, LazyError>
         requires in_order { run.now.start ≤ run.now.end }
         requires inside { run.now.end ≤ self.now.count }
-        ensures names { IfOk result (λ table. IfKnown (λ bytes. IsReadAt bytes
-            (1032 + byte_len_of self.now.kind * run.now.start) table.items) self.now) }
+        ensures ids { IfOk result (λ table. ForSome (seen self.now).tables (λ tables.
+            digests_in self.now.kind table.items
+            ≡ slice_range tables.ids run.now.start run.now.end)) }
         ensures len { IfOk result (λ table. length table.items
             ≡ byte_len_of self.now.kind * (run.now.end - run.now.start)) }
-        ensures err { IfErr result (λ e. IfKnown (λ _.
-            IsReadOrMemory self.now.can_fail e) self.now) }
+        ensures err { IfErr result (λ e. ForSome (seen self.now).tables (λ _.
+            IsReadOrMemory self.now.can_fail e)) }
     {
         let _count = num_objects(&self.head);
         let (at, len) = match self.kind {
@@ -312,7 +310,7 @@ impl<S: ReadAt + Drop> LazyFile<S> {
         };
         let mut table = vec![in alloc; 0; len]?;
         self.source
-            .read_exact_at(&mut table, (NAMES_START + at) as u64)?;
+            .read_exact_at(&mut table, (IDS_START + at) as u64)?;
         Ok(table)
     }
 }

@@ -9,12 +9,12 @@
 
 mod bucket;
 mod checks;
+mod digests;
 mod error;
 mod front;
 mod index_file;
 mod lazy;
 mod lazy_error;
-mod names;
 mod offsets;
 mod search;
 pub mod tables;

@@ -1,7 +1,7 @@
 //! What is checked of the offsets of a pack index.
 
 ghost use Rattle.std.specs.Prelude.{◌≡◌, ◌^◌, ◌<◌, IfErr, IfOk, MatchOption, OnOk};
-ghost use Rattle.pack_index.specs.Format.{Each, HasNames, HasOffset, HasOffsets, HasTables, IsFault, IsFirstNot, IsNextLong, IsPastHeader, IsSigned, longs_before, num_objects};
+ghost use Rattle.pack_index.specs.Format.{Each, HasIds, HasOffset, HasOffsets, HasTables, IsFault, IsFirstNot, IsNextLong, IsPastHeader, IsSigned, longs_before, num_objects};
 
 use crate::checks::first_without_offset;
 use crate::error::Error;
@@ -17,7 +17,7 @@ const UNSIGNED: u64 = 0x8000_0000_0000_0000;
 // Whether each object has an offset in the pack, and the 8-byte ones are used in the order of
 // objects.
 pub(crate) fn check_offsets(bytes: &[u8], kind: Kind) -> Result<(), Error>
-    requires { HasNames kind bytes.now }
+    requires { HasIds kind bytes.now }
     ensures offsets { OnOk result (HasOffsets kind bytes.now) }
     ensures err { IfErr result (IsFault kind bytes.now) }
 {

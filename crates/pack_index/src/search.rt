@@ -2,11 +2,11 @@
 
 ghost use Rattle.std.specs.Prelude.{◌≡◌, ◌+◌, ◌*◌, ◌^◌, ◌<◌, ◌≤◌, ℕ, List, Some, [], IfOk, IfSome, IsTrue, OnErr, length, slice_index_or, take};
 ghost use Rattle.id_lookup.specs.Words.{byte_len_of, hex_len_of, place};
-ghost use Rattle.pack_index.specs.Format.{names_in, names_start};
+ghost use Rattle.pack_index.specs.Format.{ids_in, ids_start};
 ghost use Rattle.pack_index.specs.Lazy.{AreFront, AreWithin, HaveIds};
 
 use crate::front::Front;
-use crate::words::NAMES_START;
+use crate::words::IDS_START;
 use gix_hash::{Kind, Prefix};
 use id_lookup::{Id, Run};
 use std::cmp::Ordering;
@@ -37,7 +37,7 @@ pub(crate) fn narrowed<S: ReadAt>(
     ensures in_order { IfOk result (λ part. part.start ≤ part.end) }
     ensures to { IfOk result (λ part. part.end ≤ run.end) }
     ensures all { IfOk result (λ part. (bytes : List ℕ) → S.content source.now ≡ Some bytes
-        → AreWithin kind bytes prefix.now.digits run.start run.end part.start part.end) }
+        → AreWithin (ids_in kind bytes) prefix.now.digits run.start run.end part.start part.end) }
     ensures err { OnErr result ((bytes : List ℕ) → S.content source.now ≡ Some bytes
         → IsTrue (S.can_fail source.now)) }
 {
@@ -79,8 +79,8 @@ fn cut<S: ReadAt>(
     ensures to { IfOk result (λ cut. cut.end ≤ part.end) }
     ensures all { IfOk result (λ cut. (bytes : List ℕ) → S.content source.now ≡ Some bytes
         → (start end : ℕ) → start ≤ part.start → part.end ≤ end → HaveIds kind bytes end
-        → AreWithin kind bytes prefix.now.digits start end part.start part.end
-        → AreWithin kind bytes prefix.now.digits start end cut.start cut.end) }
+        → AreWithin (ids_in kind bytes) prefix.now.digits start end part.start part.end
+        → AreWithin (ids_in kind bytes) prefix.now.digits start end cut.start cut.end) }
     ensures err { OnErr result ((bytes : List ℕ) → S.content source.now ≡ Some bytes
         → IsTrue (S.can_fail source.now)) }
 {
@@ -112,7 +112,7 @@ fn place_at<S: ReadAt>(
     requires known { (bytes : List ℕ) → S.content source.now ≡ Some bytes
         → HaveIds kind bytes (at + 1) }
     ensures place { IfOk result (λ o. (bytes : List ℕ) → S.content source.now ≡ Some bytes
-        → o ≡ place prefix.now.digits (slice_index_or (names_in kind bytes) at [])) }
+        → o ≡ place prefix.now.digits (slice_index_or (ids_in kind bytes) at [])) }
     ensures err { OnErr result ((bytes : List ℕ) → S.content source.now ≡ Some bytes
         → IsTrue (S.can_fail source.now)) }
 {
@@ -137,7 +137,7 @@ fn whole_place_at<S: ReadAt>(
     requires known { (bytes : List ℕ) → S.content source.now ≡ Some bytes
         → HaveIds kind bytes (at + 1) }
     ensures place { IfOk result (λ o. (bytes : List ℕ) → S.content source.now ≡ Some bytes
-        → o ≡ place prefix.now.digits (slice_index_or (names_in kind bytes) at [])) }
+        → o ≡ place prefix.now.digits (slice_index_or (ids_in kind bytes) at [])) }
     ensures err { OnErr result ((bytes : List ℕ) → S.content source.now ≡ Some bytes
         → IsTrue (S.can_fail source.now)) }
 {
@@ -159,11 +159,11 @@ fn whole_place_at<S: ReadAt>(
 // Where the id at a position begins, in bytes from the start of the index.
 fn name_start(kind: Kind, at: usize) -> usize
     requires { at < 2 ^ 32 }
-    ensures { result ≡ names_start + byte_len_of kind * at }
+    ensures { result ≡ ids_start + byte_len_of kind * at }
 {
     match kind {
-        Kind::Sha1 => NAMES_START + 20 * at,
-        Kind::Sha256 => NAMES_START + 32 * at,
+        Kind::Sha1 => IDS_START + 20 * at,
+        Kind::Sha256 => IDS_START + 32 * at,
     }
 }
 

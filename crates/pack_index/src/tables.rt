@@ -1,13 +1,13 @@
 //! The tables of an index whose bytes were not checked whole, or were checked before: each function
 //! says which parts of the format the caller must ensure.
 //!
-//! Each takes the bytes of the index from its first on, and at least [`NAMES_START`] of them. What
+//! Each takes the bytes of the index from its first on, and at least [`IDS_START`] of them. What
 //! it returns is a number of objects, a position among these, or a number of bytes from the start
 //! of the index. `crc_in` and `offset_in` require that [`check_tables`] accepted the bytes.
 //!
 //! ```
-//! let names = match check_tables(content, Kind::Sha1) {
-//!     Ok(()) => &content[NAMES_START..crc_table_start(content, Kind::Sha1)],
+//! let ids = match check_tables(content, Kind::Sha1) {
+//!     Ok(()) => &content[IDS_START..crc_table_start(content, Kind::Sha1)],
 //!     Err(error) => return Err(error.into()),
 //! };
 //! ```
@@ -27,5 +27,5 @@
 
 pub use crate::checks::{check_tables, has_offset};
 pub use crate::words::{
-    NAMES_START, bucket_range, crc_in, crc_table_start, fan_out_entry, num_objects, offset_in,
+    IDS_START, bucket_range, crc_in, crc_table_start, fan_out_entry, num_objects, offset_in,
 };

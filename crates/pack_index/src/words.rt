@@ -2,14 +2,14 @@
 
 ghost use Rattle.std.specs.Prelude.{◌≡◌, ◌+◌, ◌*◌, ◌<◌, ◌≤◌, ◌^◌, length};
 ghost use Rattle.id_lookup.specs.Words.{byte_len_of};
-ghost use Rattle.pack_index.specs.Format.{HasOffset, HasTables, crc_in, crc_table_start, digest_at, long_table_start, names_start, num_objects, offset_in, offset_table_start, offset_word, tables_end, word_at};
-ghost use Rattle.pack_index.specs.Lazy.{bucket_end, bucket_start};
+ghost use Rattle.pack_index.specs.Format.{HasOffset, HasTables, crc_in, crc_table_start, digest_at, long_table_start, ids_start, num_objects, offset_in, offset_table_start, offset_word, tables_end, word_at};
+ghost use Rattle.pack_index.specs.Lazy.{bucket_start, fan_out};
 
 use gix_hash::Kind;
 use id_lookup::Run;
 
 /// Where the ids begin, in bytes from the start of the index.
-pub const NAMES_START: usize = 1032;
+pub const IDS_START: usize = 1032;
 
 /// The smallest word of the table of offsets that refers to an 8-byte offset.
 pub(crate) const LONG: u32 = 0x8000_0000;
@@ -33,16 +33,16 @@ pub(crate) fn long_word_at(bytes: &[u8], at: usize) -> u64
 
 /// The number of objects, the last entry of the fan-out table.
 pub fn num_objects(bytes: &[u8]) -> u32
-    requires { names_start ≤ length bytes.now }
+    requires { ids_start ≤ length bytes.now }
     ensures { result ≡ num_objects bytes.now }
 {
-    word_at(bytes, NAMES_START - 4)
+    word_at(bytes, IDS_START - 4)
 }
 
 /// The fan-out entry of a byte: the number of ids with at most that first byte.
 pub fn fan_out_entry(bytes: &[u8], byte: u8) -> u32
-    requires { names_start ≤ length bytes.now }
-    ensures { result ≡ word_at bytes.now (8 + 4 * byte) }
+    requires { ids_start ≤ length bytes.now }
+    ensures { result ≡ fan_out bytes.now byte }
 {
     word_at(bytes, 8 + 4 * usize::from(byte))
 }
@@ -50,9 +50,9 @@ pub fn fan_out_entry(bytes: &[u8], byte: u8) -> u32
 /// The positions of the ids with first bytes from `first` to `last`, by the fan-out table. If that
 /// is wrong, they may be positions of no ids, and `end` may be below `start`.
 pub fn bucket_range(bytes: &[u8], first: u8, last: u8) -> Run
-    requires { names_start ≤ length bytes.now }
-    ensures start { result.start ≡ bucket_start bytes.now first }
-    ensures end { result.end ≡ bucket_end bytes.now last }
+    requires { ids_start ≤ length bytes.now }
+    ensures start { result.start ≡ bucket_start (fan_out bytes.now) first }
+    ensures end { result.end ≡ fan_out bytes.now last }
 {
     let below = if first == 0 {
         0
@@ -67,7 +67,7 @@ pub fn bucket_range(bytes: &[u8], first: u8, last: u8) -> Run
 
 /// Where the CRCs begin and the ids end, in bytes from the start of the index.
 pub fn crc_table_start(bytes: &[u8], kind: Kind) -> usize
-    requires { names_start ≤ length bytes.now }
+    requires { ids_start ≤ length bytes.now }
     ensures start { result ≡ crc_table_start kind bytes.now }
     ensures small { result < 2 ^ 40 }
 {
@@ -76,12 +76,12 @@ pub fn crc_table_start(bytes: &[u8], kind: Kind) -> usize
         Kind::Sha1 => 20 * count,
         Kind::Sha256 => 32 * count,
     };
-    NAMES_START + len
+    IDS_START + len
 }
 
 // Where the offsets begin.
 pub(crate) fn offset_table_start(bytes: &[u8], kind: Kind) -> usize
-    requires { names_start ≤ length bytes.now }
+    requires { ids_start ≤ length bytes.now }
     ensures start { result ≡ offset_table_start kind bytes.now }
     ensures small { result < 2 ^ 41 }
 {
@@ -90,7 +90,7 @@ pub(crate) fn offset_table_start(bytes: &[u8], kind: Kind) -> usize
 
 // Where the 8-byte offsets begin.
 pub(crate) fn long_table_start(bytes: &[u8], kind: Kind) -> usize
-    requires { names_start ≤ length bytes.now }
+    requires { ids_start ≤ length bytes.now }
     ensures start { result ≡ long_table_start kind bytes.now }
     ensures small { result < 2 ^ 42 }
 {

@@ -7,16 +7,16 @@ use Rattle.packtool.specs.declared.arguments.Action.TheVariants as actions
 use Rattle.store_questions.specs.declared.request.Ask.{Ask}
 use Rattle.store_questions.specs.declared.request.Ask.TheVariants.{All, Lines, Prefix}
 use Rattle.packtool.specs.declared.arguments.FileCommand.TheVariants.{Check, Show}
-use Rattle.store_questions.specs.declared.request.Question.TheVariants.{Find, Locate, Names}
+use Rattle.store_questions.specs.declared.request.Question.TheVariants.{Abbreviate, Find, Locate}
 use Rattle.packtool.specs.declared.arguments.Request.{Request}
 use Rattle.packtool.specs.declared.arguments.Request.TheVariants as requests
-use Rattle.packtool_commands.specs.declared.printing.Answers.TheVariants as answers_of
+use Rattle.packtool_commands.specs.declared.printing.Wanted.TheVariants as wanted
 
 -- the name of the command that does something
 abbrev pub name_of : Action → List ℕ
 name_of (actions.Store Find) = codes "find"
 name_of (actions.Store Locate) = codes "locate"
-name_of (actions.Store Names) = codes "abbreviate"
+name_of (actions.Store Abbreviate) = codes "abbreviate"
 name_of (actions.Files Show) = codes "show"
 name_of (actions.Files Check) = codes "check"
 
@@ -33,9 +33,9 @@ IsGiven found id given =
 
 -- what a question is about, by the prefix that is among the arguments, if one is, and by whether `--one` and `--stdin` are
 abbrev pub IsAbout : Option (List ℕ) → Bool → Bool → Ask → Type 0
-IsAbout (Some text) true stdin (Prefix prefix answers) = (prefix.now ≡ text) × (answers ≡ answers_of.BareOne)
-IsAbout (Some text) false stdin (Prefix prefix answers) = (prefix.now ≡ text) × (answers ≡ answers_of.Bare)
+IsAbout (Some text) true stdin (Prefix prefix answers) = (prefix.now ≡ text) × (answers ≡ wanted.BareOne)
+IsAbout (Some text) false stdin (Prefix prefix answers) = (prefix.now ≡ text) × (answers ≡ wanted.Bare)
 IsAbout None one false All = Unit {0}
-IsAbout None true true (Lines answers) = answers ≡ answers_of.One
-IsAbout None false true (Lines answers) = answers ≡ answers_of.All
+IsAbout None true true (Lines answers) = answers ≡ wanted.One
+IsAbout None false true (Lines answers) = answers ≡ wanted.All
 IsAbout prefix one stdin ask = ⊥

@@ -7,7 +7,7 @@ ghost use Rattle.packtool.specs.Arguments.{IsAbout, IsGiven, action_in, name_of}
 
 use clap::{Arg, ArgAction, ArgMatches, Command, value_parser};
 use gix_hash::Kind;
-use packtool_commands::Answers;
+use packtool_commands::Wanted;
 use std::alloc::{AllocError, Global};
 use store_questions::{Ask, Question, StoreRequest};
 
@@ -29,6 +29,8 @@ pub struct FileRequest<'m, 'a> {
     pub paths: &'m [&'a str],
     /// The kind of their ids and digests, or `None` for the one that a file has.
     pub kind: Option<Kind>,
+    /// Whether a terminal shows nothing of how much was read.
+    pub no_progress: bool,
 }
 
 /// A command over files.
@@ -70,6 +72,7 @@ enum Argument {
     Least,
     Objects,
     Kind,
+    NoProgress,
 }
 
 const COMMANDS: [Row; 5] = [
@@ -100,7 +103,7 @@ const COMMANDS: [Row; 5] = [
         ],
     },
     Row {
-        action: Action::Store(Question::Names),
+        action: Action::Store(Question::Abbreviate),
         name: "abbreviate",
         usage: "packtool abbreviate [--stdin] [--least N] [--objects DIR] [--kind KIND]",
         about: "Prints each id of the store after its abbreviation",
@@ -121,9 +124,9 @@ const COMMANDS: [Row; 5] = [
     Row {
         action: Action::Files(FileCommand::Check),
         name: "check",
-        usage: "packtool check [--kind KIND] FILE...",
+        usage: "packtool check [--kind KIND] [--no-progress] FILE...",
         about: "Prints whether pack indexes are sound, and whether other files end with their digest",
-        arguments: &[Argument::Files, Argument::Kind],
+        arguments: &[Argument::Files, Argument::Kind, Argument::NoProgress],
     },
 ];
 
@@ -136,7 +139,7 @@ const ORIGIN: &str = "packtool 0.6.0 of Nunbirdstand";
 const AFTER: &str =
     "The exit status is 0 if something was found and each file passed its check; 1 if nothing was
 found, if --one found several ids, if a prefix from --stdin was missing, ambiguous or bad, or if a
-file failed; and 2 after an error, which is printed on standard error.";
+file failed; and 2 after an error, which is printed on standard error. packtool(1) has more.";
 
 /// The command line of the program: what `--help` prints, and which arguments are read.
 pub fn command<'a>(alloc: Global) -> Result<Command<'a>, AllocError> {
@@ -190,6 +193,7 @@ fn arg_of<'a>(alloc: Global, argument: Argument) -> Result<Arg<'a>, AllocError> 
         Argument::Kind => option(alloc, "kind", "KIND")
             .visible_alias("object-format")?
             .value_parser(["sha1", "sha256"].as_slice()),
+        Argument::NoProgress => flag(alloc, "no-progress"),
     };
     Ok(arg.help(help_of(argument)))
 }
@@ -198,7 +202,8 @@ fn arg_of<'a>(alloc: Global, argument: Argument) -> Result<Arg<'a>, AllocError> 
 fn help_of(argument: Argument) -> &'static str {
     match argument {
         Argument::Prefix => "2 hex digits or more",
-        Argument::Lines => "Reads a prefix from each line of standard input",
+        Argument::Lines =>
+            "Reads a prefix from each line of standard input; a line without a result is printed before missing, ambiguous or bad",
         Argument::One => "Prints only the one id of a prefix, or its locations",
         Argument::Indexes => "A pack index of version 2; - is standard input",
         Argument::Files =>
@@ -207,6 +212,7 @@ fn help_of(argument: Argument) -> &'static str {
         Argument::Objects =>
             "The object directory [default: the repository's, by $GIT_OBJECT_DIRECTORY, $GIT_DIR or from here upwards]",
         Argument::Kind => "The kind of ids [default: what the repository or the file has]",
+        Argument::NoProgress => "Shows nothing on a terminal while a file is read",
     }
 }
 
@@ -281,14 +287,17 @@ fn file_request<'m, 'a>(
     command: FileCommand,
     matches: &'m ArgMatches<'a>,
 ) -> Option<FileRequest<'m, 'a>>
-    ensures { IfSome result (λ request. (request.command ≡ command)
+    ensures files { IfSome result (λ request. (request.command ≡ command)
         × (Some (map (λ path. path.now) request.paths.now)
         ≡ option_map raw_values (matched_of (found_of matches.now) (codes "files")))) }
+    ensures progress { IfSome result (λ request.
+        IsGiven (found_of matches.now) (codes "no-progress") request.no_progress) }
 {
     Some(FileRequest {
         command,
         paths: matches.get_strs("files")?,
         kind: kind_of(matches),
+        no_progress: matches.get_flag("no-progress"),
     })
 }
 
@@ -298,11 +307,11 @@ fn ask_of<'a>(prefix: Option<&'a str>, one: bool, stdin: bool) -> Ask<'a>
     ensures { IsAbout (option_map (λ text. text.now) prefix.entry) one stdin result }
 {
     match prefix {
-        Some(prefix) if one => Ask::Prefix(prefix, Answers::BareOne),
-        Some(prefix) => Ask::Prefix(prefix, Answers::Bare),
+        Some(prefix) if one => Ask::Prefix(prefix, Wanted::BareOne),
+        Some(prefix) => Ask::Prefix(prefix, Wanted::Bare),
         None if !stdin => Ask::All,
-        None if one => Ask::Lines(Answers::One),
-        None => Ask::Lines(Answers::All),
+        None if one => Ask::Lines(Wanted::One),
+        None => Ask::Lines(Wanted::All),
     }
 }
 

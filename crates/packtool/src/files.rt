@@ -3,7 +3,7 @@
 ghost use Rattle.std.specs.Prelude.{◌≡◌, ◌≢◌, ◌↔◌, ◌+◌, ◌*◌, ◌≤◌, ◌++◌, ◌∷◌, ◌⊎◌, ℕ, [], List, Ok, Some, codes, false, length, take, true, IfOk, IfSome, IsTrue, MatchOption, OnOk, string_bytes};
 ghost use Rattle.std.specs.Io.{StartsWith};
 ghost use Rattle.std.specs.Option.{ForSome};
-ghost use Rattle.pack_index.specs.Format.{names_start, num_objects};
+ghost use Rattle.pack_index.specs.Format.{ids_start, num_objects};
 ghost use Rattle.store_questions.specs.Failures.{IsAt};
 ghost use Rattle.packtool.specs.Verdicts.{HasWrittenVerdict, IsEnding, IsRight, IsVerdictOn, IsVerdictOnSome};
 ghost use Rattle.store_questions.specs.declared.failure.FileWhy.{FileWhy};
@@ -12,8 +12,9 @@ ghost use Rattle.streams.specs.Devices.{plain_error, plain_failed, plain_inner};
 ghost use Rattle.streams.specs.Streams.{HasReadAll, IsReadAt};
 ghost use Rattle.streams.specs.declared.checking.Ending.{Ending};
 
+use crate::progress::Watched;
 use gix_hash::Kind;
-use pack_index::tables::{NAMES_START, num_objects};
+use pack_index::tables::{IDS_START, num_objects};
 use packtool_commands::{
     FileError, Pairing, open_index, pair, show as show_input, write_ending, write_named,
     write_pairing,
@@ -22,6 +23,7 @@ use repositories::{metadata, retried};
 use std::alloc::{AllocError, Global};
 use std::fs::File;
 use std::io::{self, Cursor, Read, Seek, SeekFrom};
+use std::time::Instant;
 use store_questions::{Failure, FileWhy, expect_text, file_failure as failure};
 use streams::{Ending, PipeError, Plain, ReadAt, Retrying, Source, check_either, check_seal};
 
@@ -105,11 +107,12 @@ enum Verdict {
 ///
 /// If no kind is given, a file may end with the digest of either kind, and the length of a pack
 /// index says its kind. A file that does not end with its SHA-1 is read twice, and standard input
-/// once.
+/// once. How much was read is shown from a time on, if one is given, and cleared at the end.
 pub fn check<'a, W: io::Write>(
     rt: &HostRuntime,
     path: &str,
     kind: Option<Kind>,
+    due: Option<Instant>,
     out: &mut Plain<W>,
 ) -> Result<bool, Failure<'a>>
     ensures { IfOk result (λ is_right. plain_failed out.new ≡ false → (said : Verdict)
@@ -117,9 +120,9 @@ pub fn check<'a, W: io::Write>(
         (W.contents (plain_inner out.old)) (W.contents (plain_inner out.new))) }
 {
     let verdict = if path == "-" {
-        verdict_of_input(rt, kind)?
+        verdict_of_input(rt, kind, due)?
     } else {
-        verdict_of_file(rt, path, kind)?
+        verdict_of_file(rt, path, kind, due)?
     };
     if !out.failed() {
         write_verdict(rt, path, &verdict, out)?;
@@ -174,13 +177,17 @@ fn fault_end(alloc: Global, why: &str) -> Result<String, AllocError>
 
 // The verdict on standard input. Its first bytes decide whether it is a pack index. No more of a
 // pack index is read than its counts allow.
-fn verdict_of_input<'a>(rt: &HostRuntime, kind: Option<Kind>) -> Result<Verdict, Failure<'a>>
+fn verdict_of_input<'a>(
+    rt: &HostRuntime,
+    kind: Option<Kind>,
+    due: Option<Instant>,
+) -> Result<Verdict, Failure<'a>>
     ensures { IfOk result (IsVerdictOnSome kind) }
 {
     let path = "-";
-    let mut reader = rt.reader();
+    let mut reader = Watched::new(rt, path, 0, due, rt.reader());
     let mut bytes = Vec::new(rt.alloc());
-    read_more(rt, path, &mut reader, NAMES_START as u64, &mut bytes)?;
+    read_more(rt, path, &mut reader, IDS_START as u64, &mut bytes)?;
     if !is_index(rt, &&bytes[..], path)? {
         let mut input = Cursor::new(&bytes[..]).chain(reader);
         return Ok(Verdict::Ends(ending_of(rt, &mut input, path, kind)?));
@@ -213,9 +220,9 @@ fn read_more<'a, R: io::Read>(
 // end. For each object these are at most 32 of its id, 4 of its CRC and 12 of its offset, and then
 // there are two digests.
 fn most_after(head: &[u8]) -> u64
-    ensures { names_start ≤ length head.now → result ≡ 48 * num_objects head.now + 64 }
+    ensures { ids_start ≤ length head.now → result ≡ 48 * num_objects head.now + 64 }
 {
-    if head.len() < NAMES_START {
+    if head.len() < IDS_START {
         return 0;
     }
     48 * u64::from(num_objects(head)) + 64
@@ -226,21 +233,25 @@ fn verdict_of_file<'a>(
     rt: &HostRuntime,
     path: &str,
     kind: Option<Kind>,
+    due: Option<Instant>,
 ) -> Result<Verdict, Failure<'a>>
     ensures { IfOk result (IsVerdictOnSome kind) }
 {
     if is_chain_directory(rt, path) {
         return Ok(Verdict::Skipped);
     }
-    let mut file = open(rt, path)?;
+    let file = open(rt, path)?;
     if has_no_digest(path) {
         return Ok(Verdict::Skipped);
     }
-    if !is_index(rt, &file, path)? {
-        return Ok(Verdict::Ends(ending_in(rt, &mut file, path, kind)?));
+    let is_index = is_index(rt, &file, path)?;
+    let len = due.and_then(|_| file.len().ok()).unwrap_or(0);
+    let mut reader = Watched::new(rt, path, len, due, file);
+    if !is_index {
+        return Ok(Verdict::Ends(ending_in(rt, &mut reader, path, kind)?));
     }
     let mut bytes = Vec::new(rt.alloc());
-    read_more(rt, path, &mut file, u64::MAX, &mut bytes)?;
+    read_more(rt, path, &mut reader, u64::MAX, &mut bytes)?;
     verdict_of_index(rt, path, &bytes, kind)
 }
 

@@ -14,12 +14,14 @@ ghost use Rattle.streams.specs.Devices.{plain_failed, plain_inner};
 
 mod arguments;
 mod files;
+mod progress;
 mod words;
 
 use arguments::{FileCommand, FileRequest, Request};
 use gix_hash::Kind;
 use std::io::{self, ErrorKind};
 use std::process::ExitCode;
+use std::time::Instant;
 use store_questions::{FAILED, FOUND, Failure, NOTHING, buffered, flushed, lossy_text, report};
 use streams::Plain;
 
@@ -131,19 +133,22 @@ fn read_each<'a, W: io::Write>(
         (W.contents (plain_inner before)) (W.contents (plain_inner after)))
         request.now.paths.now status out.old out.new) }
 {
+    let due = progress::first_due(rt, !request.no_progress);
     let mut status = FOUND;
     for path in request.paths {
-        status = status.max(read_file(rt, request.command, path, request.kind, out)?);
+        status = status.max(read_file(rt, request.command, path, request.kind, due, out)?);
     }
     Ok(status)
 }
 
-// Shows or checks a file, and returns the status. One that cannot be read is reported.
+// Shows or checks a file, and returns the status. One that cannot be read is reported. How much was
+// read is shown from a time on, if one is given.
 fn read_file<'a, W: io::Write>(
     rt: &HostRuntime,
     command: FileCommand,
     path: &str,
     kind: Option<Kind>,
+    due: Option<Instant>,
     out: &mut Plain<W>,
 ) -> Result<u8, Failure<'a>>
     ensures { IfOk result (λ status. IsRead command path.now (plain_failed out.new) status
@@ -151,7 +156,7 @@ fn read_file<'a, W: io::Write>(
 {
     let outcome = match command {
         FileCommand::Show => files::show(rt, path, kind, out),
-        FileCommand::Check => files::check(rt, path, kind, out),
+        FileCommand::Check => files::check(rt, path, kind, due, out),
     };
     status_of_file(rt, outcome)
 }

@@ -8,24 +8,24 @@ use Rattle.streams.specs.Streams.{lines_of}
 use Rattle.packtool_commands.specs.Stores.{AreListed, found_text, limit_for, no_answer, of_two, prefix_of, prefixes_of}
 use Rattle.packtool_commands.specs.declared.prefixes.Line.{Line}
 use Rattle.std.specs.Option.{option_map_or, option_or}
-use Rattle.packtool_commands.specs.declared.printing.Answers.{Answers}
+use Rattle.packtool_commands.specs.declared.printing.Wanted.{Wanted}
 use Rattle.packtool_commands.specs.declared.printing.NoAnswer.{NoAnswer}
 use Rattle.packtool_commands.specs.declared.printing.NoAnswer.TheVariants.{Bad}
-use Rattle.packtool_commands.specs.declared.printing.Answers.TheVariants.{All as AllOfThem, Bare, BareOne, One}
+use Rattle.packtool_commands.specs.declared.printing.Wanted.TheVariants.{All as AllOfThem, Bare, BareOne, One}
 
 -- a text that is empty has no line
 pub lines_at_end : (text : List ℕ) → length text ≡ 0 → lines_of text ≡ []
 lines_at_end text none = ap lines_of (nil_from_length text none) ∙ lines_of-nil
 
 -- all that was found after a line, if there is something
-pub found_all : {X : Type 0} (text : Option (List ℕ) → X → List ℕ) (answers : Answers) (line : List ℕ) (found : List X) → answers ≡ AllOfThem → 0 < length found
-    → flat_map (text (Some line)) found ≡ found_text text answers line found
-found_all text answers line [] all some = absurd (omega (arith, some))
-found_all text answers line (x ∷ found) all some = ap (λ a. found_text text a line (x ∷ found)) (sym all)
+pub found_all : {X : Type 0} (text : Option (List ℕ) → X → List ℕ) (wanted : Wanted) (line : List ℕ) (found : List X) → wanted ≡ AllOfThem → 0 < length found
+    → flat_map (text (Some line)) found ≡ found_text text wanted line found
+found_all text wanted line [] all some = absurd (omega (arith, some))
+found_all text wanted line (x ∷ found) all some = ap (λ a. found_text text a line (x ∷ found)) (sym all)
 
 -- what is printed by the first two is what is printed by all, if only one is asked for
-pub text_of_first : {X : Type 0} (text : Option (List ℕ) → X → List ℕ) (answers : Answers) (line : List ℕ) (found : List X)
-    → found_text text answers line (limited_to (limit_for answers) found) ≡ found_text text answers line found
+pub text_of_first : {X : Type 0} (text : Option (List ℕ) → X → List ℕ) (wanted : Wanted) (line : List ℕ) (found : List X)
+    → found_text text wanted line (limited_to (limit_for wanted) found) ≡ found_text text wanted line found
 text_of_first text AllOfThem line found = refl
 text_of_first text One line [] = refl
 text_of_first text One line (x ∷ []) = refl
@@ -36,7 +36,7 @@ text_of_first text BareOne line (x ∷ []) = refl
 text_of_first text BareOne line (x ∷ (other ∷ found)) = refl
 
 -- and so is why they are no answer
-pub no_answer_of_first : {X : Type 0} (answers : Answers) (found : List X) → no_answer answers (limited_to (limit_for answers) found) ≡ no_answer answers found
+pub no_answer_of_first : {X : Type 0} (wanted : Wanted) (found : List X) → no_answer wanted (limited_to (limit_for wanted) found) ≡ no_answer wanted found
 no_answer_of_first AllOfThem found = refl
 no_answer_of_first One [] = refl
 no_answer_of_first One (x ∷ []) = refl

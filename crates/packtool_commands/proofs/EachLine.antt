@@ -3,13 +3,13 @@ use Rattle.gix_hash.proofs.Std.{◌≡◌, ℕ, ◌++◌, ◌∷◌, [], AllZip,
 use Rattle.std.specs.Prelude.{MatchOption, is_some}
 use Rattle.id_lookup.specs.Words.{Kind, KindDigits}
 use Rattle.packtool_commands.specs.Stores.{HasAnsweredBy, HasAnsweredEach, IsTextOf, answer_of, answers_by, found_text, line_with, marked, prefix_of, prefixes_of, with_found}
-use Rattle.packtool_commands.specs.declared.printing.Answers.{Answers}
-use Rattle.packtool_commands.specs.declared.printing.Answers.TheVariants.{All as AllOfThem, Bare, BareOne, One}
+use Rattle.packtool_commands.specs.declared.printing.Wanted.{Wanted}
+use Rattle.packtool_commands.specs.declared.printing.Wanted.TheVariants.{All as AllOfThem, Bare, BareOne, One}
 use Rattle.packtool_commands.specs.declared.printing.NoAnswer.{NoAnswer}
 
 -- the texts of what was found are those of what it is seen as
-pub text_seen : {X Y : Type 0} (text : Option (List ℕ) → Y → List ℕ) (f : X → Y) (answers : Answers) (line : List ℕ) (found : List X)
-    → found_text (λ l x. text l (f x)) answers line found ≡ found_text text answers line (map f found)
+pub text_seen : {X Y : Type 0} (text : Option (List ℕ) → Y → List ℕ) (f : X → Y) (wanted : Wanted) (line : List ℕ) (found : List X)
+    → found_text (λ l x. text l (f x)) wanted line found ≡ found_text text wanted line (map f found)
 text_seen text f AllOfThem line [] = refl
 text_seen text f AllOfThem line (x ∷ xs) = sym (flat_map-map (text (Some line)) f (x ∷ xs))
 text_seen text f One line [] = refl

@@ -8,7 +8,7 @@ use Rattle.id_lookup.specs.Words.{Kind, KindDigits, ObjectId}
 use Rattle.object_store.specs.Several.{AreFirstMatches, limited_to}
 use Rattle.object_store.specs.Stores.{AreMatches, AreMatchesOfEach, HaveMore, HaveMoreMatches, StoreView}
 use Rattle.packtool_commands.specs.Stores.{answer_of, answers_by, found_text, limit_for, marked, no_answer, no_answer_by, with_found}
-use Rattle.packtool_commands.specs.declared.printing.Answers.{Answers}
+use Rattle.packtool_commands.specs.declared.printing.Wanted.{Wanted}
 use Rattle.packtool_commands.specs.declared.printing.NoAnswer.{NoAnswer}
 use Rattle.packtool_commands.specs.declared.printing.NoAnswer.TheVariants.{Bad}
 use Rattle.packtool_commands.proofs.AnswerLemmas.{no_answer_of_first, text_of_first}
@@ -33,13 +33,13 @@ Ids A = Vec ObjectId A
 abbrev size : {A : Type 0} → Ids A → ℕ
 size ids = length ids.items
 
-module _ {A : Type 0} (answers : Answers) where
+module _ {A : Type 0} (wanted : Wanted) where
   -- the ids are the first of the others
   abbrev AreFirstOf : Ids A → Ids A → Type 0
-  AreFirstOf first ids = first.items ≡ limited_to (limit_for answers) ids.items
+  AreFirstOf first ids = first.items ≡ limited_to (limit_for wanted) ids.items
 
   abbrev FindsFirst : StoreView → KindDigits → Ids A → Type 0
-  FindsFirst view prefix first = AreFirstMatches (limit_for answers) view prefix.digits first
+  FindsFirst view prefix first = AreFirstMatches (limit_for wanted) view prefix.digits first
 
   -- all ids of which the first ones were found
   pub all_of : (view : StoreView) (prefixes : List KindDigits) (found : List (Ids A)) → AllZip (FindsFirst view) prefixes found
@@ -52,22 +52,22 @@ module _ {A : Type 0} (answers : Answers) where
 
   -- they print the same
   pub same_answers : (text : Option (List ℕ) → ObjectId → List ℕ) (kind : Kind) (lines : List (List ℕ)) (found all : List (Ids A)) → AllZip AreFirstOf found all
-      → answers_by (λ line (ids : Ids A). found_text text answers line ids.items) kind lines found ≡ answers_by (λ line (ids : Ids A). found_text text answers line ids.items) kind lines all
+      → answers_by (λ line (ids : Ids A). found_text text wanted line ids.items) kind lines found ≡ answers_by (λ line (ids : Ids A). found_text text wanted line ids.items) kind lines all
   unfolding answers_by
   same_answers text kind lines found all each =
-      let h : List ℕ × Option (Ids A) → List ℕ = answer_of (λ line ids. found_text text answers line ids.items) in
+      let h : List ℕ × Option (Ids A) → List ℕ = answer_of (λ line ids. found_text text wanted line ids.items) in
       sym (flat_map-map (λ (part : List ℕ). part) h (with_found (marked kind lines) found))
-      ∙ ap (flat_map (λ (part : List ℕ). part)) (with_same AreFirstOf h (λ line x y are. ap (found_text text answers line) are ∙ text_of_first text answers line y.items) (marked kind lines) found all each)
+      ∙ ap (flat_map (λ (part : List ℕ). part)) (with_same AreFirstOf h (λ line x y are. ap (found_text text wanted line) are ∙ text_of_first text wanted line y.items) (marked kind lines) found all each)
       ∙ flat_map-map (λ (part : List ℕ). part) h (with_found (marked kind lines) all)
 
   -- and lack the same answer
   pub same_why : (kind : Kind) (lines : List (List ℕ)) (found all : List (Ids A)) → AllZip AreFirstOf found all
-      → no_answer_by (λ (ids : Ids A). no_answer answers ids.items) kind lines found ≡ no_answer_by (λ (ids : Ids A). no_answer answers ids.items) kind lines all
+      → no_answer_by (λ (ids : Ids A). no_answer wanted ids.items) kind lines found ≡ no_answer_by (λ (ids : Ids A). no_answer wanted ids.items) kind lines all
   unfolding no_answer_by
   same_why kind lines found all each =
-      let h : List ℕ × Option (Ids A) → Option NoAnswer = λ answer. option_map_or (λ ids. no_answer answers ids.items) answer.1 (Some Bad) in
+      let h : List ℕ × Option (Ids A) → Option NoAnswer = λ answer. option_map_or (λ ids. no_answer wanted ids.items) answer.1 (Some Bad) in
       sym (fold-map option_or h None (with_found (marked kind lines) found))
-      ∙ ap (fold option_or None) (with_same AreFirstOf h (λ line x y are. ap (no_answer answers) are ∙ no_answer_of_first answers y.items) (marked kind lines) found all each)
+      ∙ ap (fold option_or None) (with_same AreFirstOf h (λ line x y are. ap (no_answer wanted) are ∙ no_answer_of_first wanted y.items) (marked kind lines) found all each)
       ∙ fold-map option_or h None (with_found (marked kind lines) all)
 
   -- if the first ids of some prefixes are more than `most`, then so are all of them
@@ -78,11 +78,11 @@ module _ {A : Type 0} (answers : Answers) where
   more_of view (prefix ∷ prefixes) [] each = absurd each
   more_of view (prefix ∷ prefixes) (first ∷ some) each =
       let rest = more_of view prefixes some each.1 in elim each.0 [
-        | inl are ↦ (are.ids ∷ rest.0, (inl are.are_matches, rest.1), omega (arith, sum_by-cons size first some, sum_by-cons size are.ids rest.0, rest.2, ap length are.first_are, short (limit_for answers) are.ids.items))
+        | inl are ↦ (are.ids ∷ rest.0, (inl are.are_matches, rest.1), omega (arith, sum_by-cons size first some, sum_by-cons size are.ids rest.0, rest.2, ap length are.first_are, short (limit_for wanted) are.ids.items))
         | inr none ↦ (first ∷ rest.0, (inr none, rest.1), omega (arith, sum_by-cons size first some, sum_by-cons size first rest.0, rest.2))
       ]
 
   pub have_more : (view : StoreView) (most : ℕ) (prefixes : List KindDigits)
-      → HaveMore (λ digits first. AreFirstMatches {A = A} (limit_for answers) view digits first) size most prefixes → HaveMoreMatches A view most prefixes
+      → HaveMore (λ digits first. AreFirstMatches {A = A} (limit_for wanted) view digits first) size most prefixes → HaveMoreMatches A view most prefixes
   have_more view most prefixes more =
       let all = more_of view prefixes more.some more.each in record { some = all.0; each = all.1; more = omega (arith, all.2, more.more) }

@@ -1,7 +1,7 @@
 -- Lines of which the last are kept back, to be written together.
 use Rattle.gix_hash.proofs.Std.{◌≡◌, ℕ, ◌+◌, ◌<◌, arith, Bool, true, Option, List, ◌++◌, take, drop, Result, Err, sym, ap, subst, ◌∙◌, append_assoc, take-append-drop, IsErr, flat_map, range_with_len, flat_map-append, get_or-range_with_len, length-range_with_len, Appends-trans}
 use Rattle.object_store.proofs.Held.{flat_map-take}
-use Rattle.streams.specs.Streams.{AppendsPart, Wrote}
+use Rattle.streams.specs.Streams.{AppendsBeginning, Wrote}
 use Rattle.streams.specs.declared.sink.WriteFailed.{WriteFailed}
 use Rattle.streams.proofs.WritingLemmas.{Wrote-stop, Wrote-then}
 use Rattle.packtool_commands.specs.Files.{KeepsBack}
@@ -23,7 +23,7 @@ keeps_written r kept lines before w = subst (Wrote _ _ _ _ r) (sym before.all) (
 
 -- and where that stops, so does the write of all and more
 pub keeps_stop : {S : Type 0} {taken : S → Option (List ℕ)} {has_failed : S → Bool} {a c : S} (b : S) (r : Result (Unit {0}) WriteFailed)
-    (kept lines more : List ℕ) → IsErr r → KeepsBack (taken a) (taken b) kept lines → AppendsPart (taken b) (taken c) kept → has_failed c ≡ true
+    (kept lines more : List ℕ) → IsErr r → KeepsBack (taken a) (taken b) kept lines → AppendsBeginning (taken b) (taken c) kept → has_failed c ≡ true
     → Wrote taken has_failed a c r (lines ++ more)
 keeps_stop {S} {taken} {has_failed} {a} {c} b r kept lines more is before part failed =
     let stopped : Wrote taken has_failed b c (Err (record {})) kept = record { written = tt; not_failed = tt; part = part; failed = failed } in

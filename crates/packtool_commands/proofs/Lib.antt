@@ -3,7 +3,7 @@ mod FirstTwo
 mod LineLemmas
 mod KeptLines
 mod ShownLemmas
-mod NamedLemmas
+mod AbbreviatedLemmas
 mod OnePrefix
 pub mod EachLine
 mod EscapeLemmas

@@ -1,7 +1,7 @@
 -- The parts of a line, one after the other.
 use Rattle.gix_hash.proofs.Std.{◌≡◌, ℕ, List, [], ◌∷◌, ◌++◌, append_assoc}
 use Rattle.packtool_commands.specs.Files.{line_of_object}
-use Rattle.packtool_commands.specs.Stores.{line_of_name}
+use Rattle.packtool_commands.specs.Stores.{line_of_abbreviation}
 
 -- parts that are added one after the other are a line, after what was there before
 pub line_parts : (front offset id crc : List ℕ)
@@ -9,7 +9,7 @@ pub line_parts : (front offset id crc : List ℕ)
 unfolding line_of_object
 line_parts front offset id crc = simp append_assoc
 
--- and of a name
-pub name_parts : (front name id : List ℕ) → front ++ name ++ 32 ∷ [] ++ id ++ 10 ∷ [] ≡ front ++ line_of_name name id
-unfolding line_of_name
+-- and of an abbreviation
+pub name_parts : (front name id : List ℕ) → front ++ name ++ 32 ∷ [] ++ id ++ 10 ∷ [] ≡ front ++ line_of_abbreviation name id
+unfolding line_of_abbreviation
 name_parts front name id = simp append_assoc

@@ -5,7 +5,7 @@ use Rattle.id_lookup.specs.Words.{Kind, KindDigits, ObjectId, hex_letter, id_dig
 use Rattle.object_store.specs.Stores.{AreMatches, StoreView}
 use Rattle.streams.specs.Streams.{line_of, printed}
 use Rattle.packtool_commands.specs.Stores.{HasAnsweredBy, HasAnsweredMatches, answer_of, answers_by, no_answer, no_answer_by, prefix_of, prefixes_of, with_found}
-use Rattle.packtool_commands.specs.declared.printing.Answers.TheVariants.{Bare}
+use Rattle.packtool_commands.specs.declared.printing.Wanted.TheVariants.{Bare}
 use Rattle.packtool_commands.specs.declared.printing.NoAnswer.{NoAnswer}
 use Rattle.packtool_commands.proofs.AnswerLemmas.{first_why}
 

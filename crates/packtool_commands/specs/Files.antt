@@ -5,10 +5,10 @@ use Rattle.std.specs.Io.KnownBytes.{Appends}
 use Rattle.std.specs.List.{list_any, range_with_len}
 use Rattle.hex.specs.Hex.{encode_lower}
 use Rattle.id_lookup.specs.Words.{Kind, ObjectId, Sha1, Sha256, byte_len_of, digits_of, hex_letter, id_bytes, id_digits, spelling}
-use Rattle.streams.specs.Streams.{AppendsPart}
+use Rattle.streams.specs.Streams.{AppendsBeginning}
 use Rattle.streams.specs.declared.checking.Ending.{Ending}
 use Rattle.streams.specs.declared.checking.Ending.TheVariants.{Sealed, Unsealed}
-use Rattle.pack_index.specs.Format.{Each, HasHead, HasTables, IndexFile, IsFault, IsFirstNot, IsPackIndex, IsRefusal, crc_in, digest_at, names_in, offset_in, other_than, tables_end}
+use Rattle.pack_index.specs.Format.{Each, HasHead, HasTables, IndexFile, IsFault, IsFirstNot, IsPackIndex, IsRefusal, crc_in, digest_at, ids_in, offset_in, other_than, tables_end}
 use Rattle.pack_index.specs.declared.error.Error.{Error}
 use Rattle.pack_index.specs.declared.error.Error.TheVariants.{Version1}
 use Rattle.packtool_commands.specs.declared.error.FileError.{FileError}
@@ -48,8 +48,8 @@ pub record KeepsBack (old new : Option (List ℕ)) (kept lines : List ℕ) : Typ
   pub appends : Appends old new written
 
 -- the digits of the id of the object at a position
-abbrev pub name_at : Kind → List ℕ → ℕ → List ℕ
-name_at kind bytes k = slice_index_or (names_in kind bytes) k []
+abbrev pub id_at : Kind → List ℕ → ℕ → List ℕ
+id_at kind bytes k = slice_index_or (ids_in kind bytes) k []
 
 -- a CRC in eight hex digits
 unfoldable pub crc_text : ℕ → List ℕ
@@ -61,11 +61,11 @@ line_of_object offset id crc = offset ++ 32 ∷ id ++ 32 ∷ 40 ∷ crc ++ 41 �
 
 -- the line of the object at a position: its offset in decimal, its id in hex, and its CRC
 abbrev pub index_line : Kind → List ℕ → ℕ → List ℕ
-index_line kind bytes k = line_of_object (decimal (offset_in kind bytes k)) (spelling hex_letter (name_at kind bytes k)) (crc_text (crc_in kind bytes k))
+index_line kind bytes k = line_of_object (decimal (offset_in kind bytes k)) (spelling hex_letter (id_at kind bytes k)) (crc_text (crc_in kind bytes k))
 
--- the lines of all names
+-- the lines of all ids
 abbrev pub index_lines : Kind → List ℕ → List ℕ
-index_lines kind bytes = flat_map (index_line kind bytes) (range_with_len 0 (length (names_in kind bytes)))
+index_lines kind bytes = flat_map (index_line kind bytes) (range_with_len 0 (length (ids_in kind bytes)))
 
 -- The lines of checked files.
 
@@ -106,12 +106,12 @@ IsOffsetBelow kind index end k = offset_in kind index k < end
 -- the offset is that of the first object whose offset is not
 abbrev pub IsFirstBeyond : Kind → List ℕ → ℕ → ℕ → Type 0
 IsFirstBeyond kind index end offset =
-    (k : ℕ) × IsFirstNot (IsOffsetBelow kind index end) (length (names_in kind index)) k × (offset ≡ offset_in kind index k)
+    (k : ℕ) × IsFirstNot (IsOffsetBelow kind index end) (length (ids_in kind index)) k × (offset ≡ offset_in kind index k)
 
 -- whether an index belongs to a pack, by the bytes of both: it has the digest in which the pack ends, and its offsets are before that
 abbrev pub IsPairing : Kind → List ℕ → List ℕ → Pairing → Type 0
 IsPairing kind index pack Same =
-    (named_digest kind index ≡ last_bytes kind pack) × Each (IsOffsetBelow kind index (digest_at kind pack)) (length (names_in kind index))
+    (named_digest kind index ≡ last_bytes kind pack) × Each (IsOffsetBelow kind index (digest_at kind pack)) (length (ids_in kind index))
 IsPairing kind index pack (Other id last) =
     (id_digits id ≡ digits_of (named_digest kind index)) × IsLastDigest kind pack last × (named_digest kind index ≢ last_bytes kind pack)
 IsPairing kind index pack (Beyond offset) =
@@ -149,14 +149,14 @@ IsRefusalAs None bytes error = (kind : Kind) × IsKindByLength bytes kind × (¬
 pub record HasShown (kind : Option Kind) (bytes : List ℕ) (any : Bool) (old new : Option (List ℕ)) : Type 0 where
   pub file : IndexFile
   pub is_opened : IsOpenedAs kind bytes file
-  pub found : IsTrue any ↔ (names_in file.kind file.bytes ≢ [])
+  pub found : IsTrue any ↔ (ids_in file.kind file.bytes ≢ [])
   pub written : Appends old new (index_lines file.kind file.bytes)
 
 -- the bytes are an index, and a proper beginning of its lines was written
-pub record HasShownPart (kind : Option Kind) (bytes : List ℕ) (old new : Option (List ℕ)) : Type 0 where
+pub record HasBegunShowing (kind : Option Kind) (bytes : List ℕ) (old new : Option (List ℕ)) : Type 0 where
   pub file : IndexFile
   pub is_opened : IsOpenedAs kind bytes file
-  pub written : AppendsPart old new (index_lines file.kind file.bytes)
+  pub written : AppendsBeginning old new (index_lines file.kind file.bytes)
 
 -- the cause of an error, if the bytes decide it
 abbrev pub IsFileRefusal : Option Kind → List ℕ → FileError → Type 0

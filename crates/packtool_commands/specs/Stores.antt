@@ -4,20 +4,20 @@ use Rattle.std.specs.Io.KnownBytes.{Appends}
 use Rattle.std.specs.List.{AllZip}
 use Rattle.std.specs.Option.{option_map_or, option_or}
 use Rattle.id_lookup.specs.Words.{Kind, KindDigits, ObjectId, digits_read, first_byte_of, hex_len_of, hex_letter, id_digits, kind_digits, spelling}
-use Rattle.streams.specs.Streams.{AppendsAtMost, AppendsPart}
+use Rattle.streams.specs.Streams.{AppendsAtMost, AppendsBeginning}
 use Rattle.pack_index.specs.Format.{Each}
-use Rattle.object_store.specs.Several.{AreAbbreviatedOfEach, AreLocatedOfEach, AreNamed}
+use Rattle.object_store.specs.Several.{AreAbbreviatedOfEach, AreLocatedOfEach, AreAbbreviated}
 use Rattle.object_store.specs.Stores.{AreMatchesOfEach, HaveBuckets, IsListed, IsStoreFault, StoreView}
 use Rattle.object_store.specs.declared.error.Error.{Error}
-use Rattle.object_store.specs.declared.parts.LocatedId.{LocatedId}
-use Rattle.object_store.specs.declared.parts.Location.{Location}
-use Rattle.object_store.specs.declared.parts.Location.TheVariants.{Loose, Packed}
-use Rattle.object_store.specs.declared.parts.Abbreviation.{Abbreviation}
-use Rattle.object_store.specs.declared.parts.Abbreviation.TheVariants.{Ambiguous, Missing, Named}
-use Rattle.object_store.specs.declared.parts.NamedId.{NamedId}
+use Rattle.object_store.specs.declared.locations.LocatedId.{LocatedId}
+use Rattle.object_store.specs.declared.locations.Location.{Location}
+use Rattle.object_store.specs.declared.locations.Location.TheVariants.{Loose, Packed}
+use Rattle.object_store.specs.declared.abbreviations.Abbreviation.{Abbreviation}
+use Rattle.object_store.specs.declared.abbreviations.Abbreviation.TheVariants.{Ambiguous, Missing, Unique}
+use Rattle.object_store.specs.declared.abbreviations.AbbreviatedId.{AbbreviatedId}
 use Rattle.packtool_commands.specs.Files.{escape_mark, escaped}
-use Rattle.packtool_commands.specs.declared.printing.Answers.{Answers}
-use Rattle.packtool_commands.specs.declared.printing.Answers.TheVariants as answers_of
+use Rattle.packtool_commands.specs.declared.printing.Wanted.{Wanted}
+use Rattle.packtool_commands.specs.declared.printing.Wanted.TheVariants as forms
 use Rattle.packtool_commands.specs.declared.printing.NoAnswer.{NoAnswer}
 use Rattle.packtool_commands.specs.declared.printing.NoAnswer.TheVariants as no_answers
 use Rattle.packtool_commands.specs.declared.error.StoreError.{StoreError}
@@ -67,29 +67,29 @@ id_line line id = front_text line ++ (spelling hex_letter id ++ 10 ∷ [])
 
 -- what is printed for a prefix by what was found, where each thing that was found has a text: all texts, each after the line or alone, or the only one; and if
 -- there is none, or more than one and one is asked for, the line and which of the two it is, or nothing
-abbrev pub found_text : {X : Type 0} → (Option (List ℕ) → X → List ℕ) → Answers → List ℕ → List X → List ℕ
-found_text text answers_of.All line [] = line_with line (codes "missing")
-found_text text answers_of.All line (x ∷ xs) = flat_map (text (Some line)) (x ∷ xs)
-found_text text answers_of.One line [] = line_with line (codes "missing")
-found_text text answers_of.One line (x ∷ []) = text None x
-found_text text answers_of.One line (x ∷ (other ∷ xs)) = line_with line (codes "ambiguous")
-found_text text answers_of.Bare line xs = flat_map (text None) xs
-found_text text answers_of.BareOne line [] = []
-found_text text answers_of.BareOne line (x ∷ []) = text None x
-found_text text answers_of.BareOne line (x ∷ (other ∷ xs)) = []
+abbrev pub found_text : {X : Type 0} → (Option (List ℕ) → X → List ℕ) → Wanted → List ℕ → List X → List ℕ
+found_text text forms.All line [] = line_with line (codes "missing")
+found_text text forms.All line (x ∷ xs) = flat_map (text (Some line)) (x ∷ xs)
+found_text text forms.One line [] = line_with line (codes "missing")
+found_text text forms.One line (x ∷ []) = text None x
+found_text text forms.One line (x ∷ (other ∷ xs)) = line_with line (codes "ambiguous")
+found_text text forms.Bare line xs = flat_map (text None) xs
+found_text text forms.BareOne line [] = []
+found_text text forms.BareOne line (x ∷ []) = text None x
+found_text text forms.BareOne line (x ∷ (other ∷ xs)) = []
 
 -- how many of the things are needed for that: all, or, if one is asked for, the first two, which show whether there are several
-abbrev pub limit_for : Answers → Option ℕ
-limit_for answers_of.All = None
-limit_for answers_of.One = Some 2
-limit_for answers_of.Bare = None
-limit_for answers_of.BareOne = Some 2
+abbrev pub limit_for : Wanted → Option ℕ
+limit_for forms.All = None
+limit_for forms.One = Some 2
+limit_for forms.Bare = None
+limit_for forms.BareOne = Some 2
 
 -- why the things that were found are not an answer, or none if they are one: there is none, or more than one and one is asked for
-abbrev pub no_answer : {X : Type 0} → Answers → List X → Option NoAnswer
-no_answer answers [] = Some no_answers.Missing
-no_answer answers (x ∷ []) = None
-no_answer answers (x ∷ (other ∷ xs)) = if is_some (limit_for answers) then Some no_answers.Ambiguous else None
+abbrev pub no_answer : {X : Type 0} → Wanted → List X → Option NoAnswer
+no_answer wanted [] = Some no_answers.Missing
+no_answer wanted (x ∷ []) = None
+no_answer wanted (x ∷ (other ∷ xs)) = if is_some (limit_for wanted) then Some no_answers.Ambiguous else None
 
 -- lines, and whether each is a prefix
 abbrev pub marked : Kind → List (List ℕ) → List (List ℕ × Bool)
@@ -125,11 +125,11 @@ pub record HasAnsweredBy {X : Type 0} (AreFound : List X → Type 0) (text : Lis
   pub written : Appends old new (answers_by text kind lines results)
 
 -- a proper beginning of it was written
-pub record HasAnsweredByPart {X : Type 0} (AreFound : List X → Type 0) (text : List ℕ → X → List ℕ) (kind : Kind) (lines : List (List ℕ)) (old new : Option (List ℕ)) :
+pub record HasBegunBy {X : Type 0} (AreFound : List X → Type 0) (text : List ℕ → X → List ℕ) (kind : Kind) (lines : List (List ℕ)) (old new : Option (List ℕ)) :
     Type 0 where
   pub results : List X
   pub are_found : AreFound results
-  pub written : AppendsPart old new (answers_by text kind lines results)
+  pub written : AppendsBeginning old new (answers_by text kind lines results)
 
 -- what is written for a line: if it is a prefix, the text of something that is found for it
 abbrev pub IsTextOf : {X : Type 0} → (List ℕ → X → Type 0) → (List ℕ → X → List ℕ) → Kind → List ℕ → List ℕ → Type 0
@@ -144,68 +144,68 @@ pub record HasAnsweredEach (IsText : List ℕ → List ℕ → Type 0) (lines : 
 
 -- the ids that begin with each prefix were found and printed, and `why` is why the first line that has no answer has none; A is the type of the allocator of
 -- what was found
-abbrev pub HasAnsweredMatches : (A : Type 0) → Answers → StoreView → List (List ℕ) → Option NoAnswer → Option (List ℕ) → Option (List ℕ) → Type 0
-HasAnsweredMatches A answers view lines why old new =
+abbrev pub HasAnsweredMatches : (A : Type 0) → Wanted → StoreView → List (List ℕ) → Option NoAnswer → Option (List ℕ) → Option (List ℕ) → Type 0
+HasAnsweredMatches A wanted view lines why old new =
     HasAnsweredBy {X = Vec ObjectId A} (AreMatchesOfEach view (prefixes_of view.kind lines))
-    (λ line ids. found_text (λ l (id : ObjectId). id_line l (id_digits id)) answers line ids.items) (λ ids. no_answer answers ids.items) view.kind lines why old new
+    (λ line ids. found_text (λ l (id : ObjectId). id_line l (id_digits id)) wanted line ids.items) (λ ids. no_answer wanted ids.items) view.kind lines why old new
 
 -- a proper beginning of it was printed
-abbrev pub HasAnsweredMatchesPart : (A : Type 0) → Answers → StoreView → List (List ℕ) → Option (List ℕ) → Option (List ℕ) → Type 0
-HasAnsweredMatchesPart A answers view lines old new =
-    HasAnsweredByPart {X = Vec ObjectId A} (AreMatchesOfEach view (prefixes_of view.kind lines))
-    (λ line ids. found_text (λ l (id : ObjectId). id_line l (id_digits id)) answers line ids.items) view.kind lines old new
+abbrev pub HasBegunMatches : (A : Type 0) → Wanted → StoreView → List (List ℕ) → Option (List ℕ) → Option (List ℕ) → Type 0
+HasBegunMatches A wanted view lines old new =
+    HasBegunBy {X = Vec ObjectId A} (AreMatchesOfEach view (prefixes_of view.kind lines))
+    (λ line ids. found_text (λ l (id : ObjectId). id_line l (id_digits id)) wanted line ids.items) view.kind lines old new
 
 -- The lines of the ids of a store, each with its abbreviation.
 
--- the texts of a name and an id in a line: a space between them, and a line feed
-unfoldable pub line_of_name : List ℕ → List ℕ → List ℕ
-line_of_name name id = name ++ 32 ∷ id ++ 10 ∷ []
+-- the texts of an abbreviation and an id in a line: a space between them, and a line feed
+unfoldable pub line_of_abbreviation : List ℕ → List ℕ → List ℕ
+line_of_abbreviation short id = short ++ 32 ∷ id ++ 10 ∷ []
 
--- the line of an id: its name and the id, both in hex
-abbrev pub name_line : NamedId → List ℕ
-name_line n = line_of_name (spelling hex_letter n.name.digits) (spelling hex_letter (id_digits n.id))
+-- the line of an id: its abbreviation and the id, both in hex
+abbrev pub abbreviated_line : AbbreviatedId → List ℕ
+abbreviated_line n = line_of_abbreviation (spelling hex_letter n.abbreviation.digits) (spelling hex_letter (id_digits n.id))
 
--- these are the ids whose first byte is below n, a byte after the other, each with its name: those with one byte in one of the stores that were seen
-unfoldable pub AreNamedBelow : ℕ → ℕ → (StoreView → Type 0) → List NamedId → Type 0
-AreNamedBelow zero least Sees named = named ≡ []
-AreNamedBelow (suc n) least Sees named =
-    (before : List NamedId) × (part : List NamedId) × (seen : StoreView)
-    × AreNamedBelow n least Sees before × Sees seen × AreNamed least seen n part × (named ≡ before ++ part)
+-- these are the ids whose first byte is below n, a byte after the other, each with its abbreviation: those with one byte in one of the stores that were seen
+unfoldable pub AreAbbreviatedBelow : ℕ → ℕ → (StoreView → Type 0) → List AbbreviatedId → Type 0
+AreAbbreviatedBelow zero least Sees abbreviated = abbreviated ≡ []
+AreAbbreviatedBelow (suc n) least Sees abbreviated =
+    (before : List AbbreviatedId) × (part : List AbbreviatedId) × (seen : StoreView)
+    × AreAbbreviatedBelow n least Sees before × Sees seen × AreAbbreviated least seen n part × (abbreviated ≡ before ++ part)
 
 -- their lines were written, and whether there is one is this
-pub record HasNamedBelow (n least : ℕ) (Sees : StoreView → Type 0) (any : Bool) (old new : Option (List ℕ)) : Type 0 where
-  pub named : List NamedId
-  pub are_named : AreNamedBelow n least Sees named
-  pub found : IsTrue any ↔ (named ≢ [])
-  pub written : Appends old new (flat_map name_line named)
+pub record HasAbbreviatedBelow (n least : ℕ) (Sees : StoreView → Type 0) (any : Bool) (old new : Option (List ℕ)) : Type 0 where
+  pub abbreviated : List AbbreviatedId
+  pub are_abbreviated : AreAbbreviatedBelow n least Sees abbreviated
+  pub found : IsTrue any ↔ (abbreviated ≢ [])
+  pub written : Appends old new (flat_map abbreviated_line abbreviated)
 
 -- a beginning of such lines was written, or all
-pub record HasNamedAtMost (least : ℕ) (Sees : StoreView → Type 0) (old new : Option (List ℕ)) : Type 0 where
+pub record HasAbbreviatedAtMost (least : ℕ) (Sees : StoreView → Type 0) (old new : Option (List ℕ)) : Type 0 where
   pub n : ℕ
-  pub named : List NamedId
-  pub are_named : AreNamedBelow n least Sees named
-  pub written : AppendsAtMost old new (flat_map name_line named)
+  pub abbreviated : List AbbreviatedId
+  pub are_abbreviated : AreAbbreviatedBelow n least Sees abbreviated
+  pub written : AppendsAtMost old new (flat_map abbreviated_line abbreviated)
 
 -- what is printed for a line that is a prefix: the abbreviation of the only id that begins with it
 abbrev pub abbreviation_text : List ℕ → Abbreviation → List ℕ
 abbreviation_text line Missing = line_with line (codes "missing")
 abbreviation_text line Ambiguous = line_with line (codes "ambiguous")
-abbreviation_text line (Named named) = spelling hex_letter named.name.digits ++ 10 ∷ []
+abbreviation_text line (Unique abbreviated) = spelling hex_letter abbreviated.abbreviation.digits ++ 10 ∷ []
 
 -- why there is no abbreviation
-abbrev pub no_name : Abbreviation → Option NoAnswer
-no_name Missing = Some no_answers.Missing
-no_name Ambiguous = Some no_answers.Ambiguous
-no_name (Named named) = None
+abbrev pub no_abbreviation : Abbreviation → Option NoAnswer
+no_abbreviation Missing = Some no_answers.Missing
+no_abbreviation Ambiguous = Some no_answers.Ambiguous
+no_abbreviation (Unique abbreviated) = None
 
 -- the abbreviations for the prefixes among lines were found and printed, and `why` is why the first line that has no abbreviation has none
-abbrev pub HasNamedEach : ℕ → StoreView → List (List ℕ) → Option NoAnswer → Option (List ℕ) → Option (List ℕ) → Type 0
-HasNamedEach least view lines why old new =
-    HasAnsweredBy (AreAbbreviatedOfEach least view (prefixes_of view.kind lines)) abbreviation_text no_name view.kind lines why old new
+abbrev pub HasAbbreviatedEach : ℕ → StoreView → List (List ℕ) → Option NoAnswer → Option (List ℕ) → Option (List ℕ) → Type 0
+HasAbbreviatedEach least view lines why old new =
+    HasAnsweredBy (AreAbbreviatedOfEach least view (prefixes_of view.kind lines)) abbreviation_text no_abbreviation view.kind lines why old new
 
 -- a proper beginning of it was printed
-abbrev pub HasNamedEachPart : ℕ → StoreView → List (List ℕ) → Option (List ℕ) → Option (List ℕ) → Type 0
-HasNamedEachPart least view lines old new = HasAnsweredByPart (AreAbbreviatedOfEach least view (prefixes_of view.kind lines)) abbreviation_text view.kind lines old new
+abbrev pub HasBegunAbbreviatedEach : ℕ → StoreView → List (List ℕ) → Option (List ℕ) → Option (List ℕ) → Type 0
+HasBegunAbbreviatedEach least view lines old new = HasBegunBy (AreAbbreviatedOfEach least view (prefixes_of view.kind lines)) abbreviation_text view.kind lines old new
 
 -- The lines of the locations of objects.
 
@@ -230,15 +230,15 @@ located_lines pack_path line located =
 
 -- as many of the ids that begin with each prefix among lines as are needed were located, the lines of their locations were printed, and `why` is why the first
 -- line that has no answer has none; A is the type of the allocator of what was found
-abbrev pub HasLocatedEach : (A : Type 0) → Answers → (ℕ → List ℕ) → (List ℕ → List (List ℕ)) → StoreView → List (List ℕ) → Option NoAnswer → Option (List ℕ)
+abbrev pub HasLocatedEach : (A : Type 0) → Wanted → (ℕ → List ℕ) → (List ℕ → List (List ℕ)) → StoreView → List (List ℕ) → Option NoAnswer → Option (List ℕ)
     → Option (List ℕ) → Type 0
-HasLocatedEach A answers pack_path loose_paths view lines why old new =
-    HasAnsweredBy {X = Vec (LocatedId A) A} (AreLocatedOfEach (limit_for answers) view loose_paths (prefixes_of view.kind lines))
-    (λ line ids. found_text (located_lines pack_path) answers line ids.items) (λ ids. no_answer answers ids.items) view.kind lines why old new
+HasLocatedEach A wanted pack_path loose_paths view lines why old new =
+    HasAnsweredBy {X = Vec (LocatedId A) A} (AreLocatedOfEach (limit_for wanted) view loose_paths (prefixes_of view.kind lines))
+    (λ line ids. found_text (located_lines pack_path) wanted line ids.items) (λ ids. no_answer wanted ids.items) view.kind lines why old new
 
 -- a proper beginning of it was printed
-abbrev pub HasLocatedEachPart : (A : Type 0) → Answers → (ℕ → List ℕ) → (List ℕ → List (List ℕ)) → StoreView → List (List ℕ) → Option (List ℕ)
+abbrev pub HasBegunLocatedEach : (A : Type 0) → Wanted → (ℕ → List ℕ) → (List ℕ → List (List ℕ)) → StoreView → List (List ℕ) → Option (List ℕ)
     → Option (List ℕ) → Type 0
-HasLocatedEachPart A answers pack_path loose_paths view lines old new =
-    HasAnsweredByPart {X = Vec (LocatedId A) A} (AreLocatedOfEach (limit_for answers) view loose_paths (prefixes_of view.kind lines))
-    (λ line ids. found_text (located_lines pack_path) answers line ids.items) view.kind lines old new
+HasBegunLocatedEach A wanted pack_path loose_paths view lines old new =
+    HasBegunBy {X = Vec (LocatedId A) A} (AreLocatedOfEach (limit_for wanted) view loose_paths (prefixes_of view.kind lines))
+    (λ line ids. found_text (located_lines pack_path) wanted line ids.items) view.kind lines old new

@@ -12,7 +12,7 @@ use thiserror::Error as ThisError;
 /// Why a command over a store fails.
 ///
 /// ```
-/// match names(rt.alloc(), &mut store, 7, &mut out) {
+/// match abbreviate_all(rt.alloc(), &mut store, 7, &mut out) {
 ///     Err(StoreError::Store(why)) => println!(rt; "{why}")?,
 ///     found => println!(rt; "{}", found?)?,
 /// }

@@ -3,14 +3,14 @@
 ghost use Rattle.std.specs.Prelude.{◌≡◌, ◌≢◌, ◌↔◌, ◌<◌, false, true, length, All, IfErr, IfOk, IsErrOf};
 ghost use Rattle.id_lookup.specs.Words.{id_digits};
 ghost use Rattle.object_store.specs.Stores.{HaveMoreMatches, IsFaultOfOne, IsReopened};
-ghost use Rattle.packtool_commands.specs.Stores.{AreListed, HasAnsweredMatches, HasAnsweredMatchesPart, IsFaultOf, id_line};
+ghost use Rattle.packtool_commands.specs.Stores.{AreListed, HasAnsweredMatches, HasBegunMatches, IsFaultOf, id_line};
 ghost use Rattle.packtool_commands.specs.declared.error.StoreError.{StoreError};
 ghost use Rattle.streams.specs.Streams.{lines_of};
 
 use crate::error::StoreError;
 use crate::prefixes::PrefixLines;
 use crate::printing::{
-    Answers, ItemForm, ListForm, NoAnswer, limit_for, write_answers, write_front,
+    ItemForm, ListForm, NoAnswer, Wanted, limit_for, write_answers, write_front,
 };
 use crate::reopening::look_up_lines;
 use gix_hash::{Alphabet, ObjectId};
@@ -19,13 +19,13 @@ use std::alloc::Allocator;
 use streams::{Sink, WriteFailed, write_id};
 
 /// Writes for each of some lines, in order, the ids of a store that begin with it. Returns why the
-/// first line that has no answer has none, or `None` if each has one. [`Answers`] says what an
+/// first line that has no answer has none, or `None` if each has one. [`Wanted`] says what an
 /// answer is, and how it is written.
 ///
 /// The lines are of the store's kind. For a line that is not a prefix, the line and ` bad` are
-/// written. For a prefix of no id, [`Answers::All`] and [`Answers::One`] write the line and
-/// ` missing`, and for a prefix of several ids, [`Answers::One`] writes the line and ` ambiguous`.
-/// [`Answers::Bare`] and [`Answers::BareOne`] write nothing there.
+/// written. For a prefix of no id, [`Wanted::All`] and [`Wanted::One`] write the line and
+/// ` missing`, and for a prefix of several ids, [`Wanted::One`] writes the line and ` ambiguous`.
+/// [`Wanted::Bare`] and [`Wanted::BareOne`] write nothing there.
 ///
 /// The ids of a pack index with a first byte are read once. If they were found in order before,
 /// only some of them are read, for each line. If one id is asked for, the first two of a prefix are
@@ -37,14 +37,14 @@ use streams::{Sink, WriteFailed, write_id};
 ///
 /// ```
 /// let lines = PrefixLines::read(rt.alloc(), Kind::Sha1, b"4b8\n4b9\n")?;
-/// let why = find_each(rt.alloc(), &mut store, &lines, Answers::One, 65_536, &mut out)?;
+/// let why = find_each(rt.alloc(), &mut store, &lines, Wanted::One, 65_536, &mut out)?;
 /// println!(rt; "each of the two is one id: {}", why.is_none())?;
 /// ```
 pub fn find_each<S: Reopen, A: Allocator + Copy, W: Sink>(
     alloc: A,
     store: &mut S,
     lines: &PrefixLines<'_, A>,
-    answers: Answers,
+    wanted: Wanted,
     most: usize,
     out: &mut W,
 ) -> Result<Option<NoAnswer>, StoreError>
@@ -52,7 +52,7 @@ pub fn find_each<S: Reopen, A: Allocator + Copy, W: Sink>(
     requires listed { AreListed (S.view store.old) lines.now.prefixes.items }
     requires output { W.has_failed out.old ≡ false }
     ensures reopened { IsReopened S.had S.view store.old store.new }
-    ensures found { IfOk result (λ why. HasAnsweredMatches A answers (S.view store.new)
+    ensures found { IfOk result (λ why. HasAnsweredMatches A wanted (S.view store.new)
         (lines_of lines.now.text.now) why (W.taken out.old) (W.taken out.new)) }
     ensures refused { IfErr result (IsFaultOf (IsFaultOfOne (S.view store.new)
         lines.now.prefixes.items)) }
@@ -61,15 +61,15 @@ pub fn find_each<S: Reopen, A: Allocator + Copy, W: Sink>(
         lines.now.prefixes.items }
     ensures untouched { IfErr result (λ e. e ≢ StoreError.Output → out.new ≡ out.old) }
     ensures output { IsErrOf result StoreError.Output ↔ (W.has_failed out.new ≡ true) }
-    ensures part { IsErrOf result StoreError.Output → HasAnsweredMatchesPart A answers
+    ensures part { IsErrOf result StoreError.Output → HasBegunMatches A wanted
         (S.view store.new) (lines_of lines.now.text.now) (W.taken out.old) (W.taken out.new) }
 {
     let matching = Matching {
-        limit: limit_for(answers),
+        limit: limit_for(wanted),
     };
     let found = look_up_lines(alloc, store, lines, most, &matching)?;
     let form = ListForm {
-        answers,
+        wanted,
         item: IdForm,
     };
     Ok(write_answers(lines, &found, &form, out)?)

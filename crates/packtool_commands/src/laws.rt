@@ -9,8 +9,8 @@ ghost use Rattle.object_store.specs.Several.{limited_to};
 ghost use Rattle.object_store.specs.Stores.{AreMatches, StoreView};
 ghost use Rattle.packtool_commands.specs.Files.{escape_mark, escaped, file_line, is_special};
 ghost use Rattle.packtool_commands.specs.Stores.{HasAnsweredMatches, found_text, limit_for, no_answer, prefix_of};
-ghost use Rattle.packtool_commands.specs.declared.printing.Answers.{Answers as AnswersAsked};
-ghost use Rattle.packtool_commands.specs.declared.printing.Answers.TheVariants.{Bare};
+ghost use Rattle.packtool_commands.specs.declared.printing.Wanted.{Wanted};
+ghost use Rattle.packtool_commands.specs.declared.printing.Wanted.TheVariants.{Bare};
 ghost use Rattle.packtool_commands.specs.declared.printing.NoAnswer.{NoAnswer};
 ghost use Rattle.streams.specs.Streams.{printed};
 
@@ -26,15 +26,15 @@ pub fn printed_names()
 /// The first two things that a prefix finds are enough if one is asked for: what is printed for
 /// them, and why they are no answer, is the same as for all things that it finds.
 pub fn two_are_enough<X>()
-    ensures text { (text : Option (List ℕ) → X → List ℕ) (answers : AnswersAsked) (line : List ℕ)
-        (found : List X) → found_text text answers line (limited_to (limit_for answers) found)
-        ≡ found_text text answers line found }
-    ensures no_answer { (answers : AnswersAsked) (found : List X)
-        → no_answer answers (limited_to (limit_for answers) found) ≡ no_answer answers found }
+    ensures text { (text : Option (List ℕ) → X → List ℕ) (wanted : Wanted) (line : List ℕ)
+        (found : List X) → found_text text wanted line (limited_to (limit_for wanted) found)
+        ≡ found_text text wanted line found }
+    ensures no_answer { (wanted : Wanted) (found : List X)
+        → no_answer wanted (limited_to (limit_for wanted) found) ≡ no_answer wanted found }
 {}
 
 /// For one line that is a prefix, [`find_each`](crate::find_each) writes with
-/// [`Answers::Bare`](crate::Answers::Bare) a line for each id of the store that begins with it, and
+/// [`Wanted::Bare`](crate::Wanted::Bare) a line for each id of the store that begins with it, and
 /// nothing else.
 pub fn bare_is_printed<A>()
     ensures { (view : StoreView) (line : List ℕ) (prefix : KindDigits) (why : Option NoAnswer)

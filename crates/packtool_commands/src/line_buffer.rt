@@ -1,28 +1,28 @@
-//! The lines of a pack index and of names, put together in a buffer, many of them at once.
+//! The lines of a pack index and of abbreviations, put together in a buffer, many of them at once.
 //!
 //! Each call returns where its line ends. An `ArrayVec` knows its length, but took 116 instructions
-//! more for a line of a pack index, and 48 for one of a name.
+//! more for a line of a pack index, and 48 for one of an abbreviation.
 
 ghost use Rattle.std.specs.Prelude.{◌≡◌, ◌+◌, ◌<◌, ◌≤◌, ◌++◌, IfOk, OnErr, OnOk, decimal, false, true, length, take};
 ghost use Rattle.id_lookup.specs.Words.{hex_letter, oid_digits, spelling};
-ghost use Rattle.pack_index.specs.Format.{names_in};
+ghost use Rattle.pack_index.specs.Format.{ids_in};
 ghost use Rattle.packtool_commands.specs.Files.{KeepsBack, crc_text, hex_of, index_line, line_of_object};
-ghost use Rattle.packtool_commands.specs.Stores.{name_line};
-ghost use Rattle.streams.specs.Streams.{AppendsPart};
+ghost use Rattle.packtool_commands.specs.Stores.{abbreviated_line};
+ghost use Rattle.streams.specs.Streams.{AppendsBeginning};
 
 use gix_hash::{Alphabet, Kind, oid};
 use hex::encode_to_slice;
 use id_lookup::begins_with;
 use itoa::Buffer;
-use object_store::NamedId;
+use object_store::AbbreviatedId;
 use pack_index::File;
 use streams::{Sink, WriteFailed, write_all};
 
 /// The length of a buffer for lines that are written together.
 pub(crate) const LINES_LEN: usize = 16384;
 
-// The length of the longest line of a name and its id: 64 digits of each, a space and a line feed.
-// That of an offset of 20 digits, an id and a CRC of 8 is shorter.
+// The length of the longest line of an abbreviation and its id: 64 digits of each, a space and a
+// line feed. That of an offset of 20 digits, an id and a CRC of 8 is shorter.
 const MAX_LINE_LEN: usize = 130;
 
 // The most digits of an id.
@@ -45,7 +45,7 @@ pub(crate) fn next_line_at<W: Sink>(
     ensures kept { IfOk result (λ at.
         KeepsBack (W.taken out.old) (W.taken out.new) (take at lines.now) (take end lines.now)) }
     ensures not_failed { OnOk result (W.has_failed out.new ≡ false) }
-    ensures part { OnErr result (AppendsPart (W.taken out.old) (W.taken out.new)
+    ensures part { OnErr result (AppendsBeginning (W.taken out.old) (W.taken out.new)
         (take end lines.now)) }
     ensures failed { OnErr result (W.has_failed out.new ≡ true) }
 {
@@ -59,7 +59,7 @@ pub(crate) fn next_line_at<W: Sink>(
 /// Writes the line of the object at an index into the buffer at a position, and returns where it
 /// ends.
 pub(crate) fn put_index_line(line: &mut [u8], at: usize, file: &File<'_>, index: usize) -> usize
-    requires location { index < length (names_in file.now.kind file.now.bytes) }
+    requires location { index < length (ids_in file.now.kind file.now.bytes) }
     requires room { at + MAX_LINE_LEN ≤ length line.old }
     ensures most { result ≤ at + MAX_LINE_LEN }
     ensures text { take result line.new
@@ -89,35 +89,38 @@ fn put_offset_id_crc(line: &mut [u8], at: usize, offset: u64, id: oid<'_>, crc: 
     put(line, crc_end, b")\n")
 }
 
-/// Writes the line of an id and its name into the buffer at a position, and returns where it ends.
-pub(crate) fn put_name_line(line: &mut [u8], at: usize, named: &NamedId) -> usize
+/// Writes the line of an id and its abbreviation into the buffer at a position, and returns where
+/// it ends.
+pub(crate) fn put_abbreviated_line(line: &mut [u8], at: usize, abbreviated: &AbbreviatedId) -> usize
     requires { at + MAX_LINE_LEN ≤ length line.old }
     ensures most { result ≤ at + MAX_LINE_LEN }
-    ensures text { take result line.new ≡ take at line.old ++ name_line named.now }
+    ensures text { take result line.new ≡ take at line.old ++ abbreviated_line abbreviated.now }
 {
     let mut letters = Kind::hex_buf();
-    let end = put_id(&mut letters, 0, named.id.as_oid());
+    let end = put_id(&mut letters, 0, abbreviated.id.as_oid());
     let id = &letters[..end];
-    let name_end = put_name(line, at, named, id);
+    let name_end = put_abbreviation(line, at, abbreviated, id);
     let id_at = put(line, name_end, b" ");
     let id_end = put(line, id_at, id);
     put(line, id_end, b"\n")
 }
 
-// Writes the name of an id into the buffer at a position, and returns where it ends. The name is
+// Writes the abbreviation of an id into the buffer at a position, and returns where it ends. It is
 // copied from the letters of the id, if these begin with it.
-fn put_name(line: &mut [u8], at: usize, named: &NamedId, id: &[u8]) -> usize
+fn put_abbreviation(line: &mut [u8], at: usize, abbreviated: &AbbreviatedId, id: &[u8]) -> usize
     requires room { at + MAX_ID_LEN ≤ length line.old }
-    requires id { id.now ≡ hex_of named.now.id }
+    requires id { id.now ≡ hex_of abbreviated.now.id }
     ensures most { result ≤ at + MAX_ID_LEN }
     ensures text { take result line.new
-        ≡ take at line.old ++ spelling hex_letter named.now.name.digits }
+        ≡ take at line.old ++ spelling hex_letter abbreviated.now.abbreviation.digits }
 {
-    let len = named.name.hex_len();
-    if len <= named.id.kind().len_in_hex() && begins_with(&named.id, &named.name) {
+    let len = abbreviated.abbreviation.hex_len();
+    if len <= abbreviated.id.kind().len_in_hex()
+        && begins_with(&abbreviated.id, &abbreviated.abbreviation)
+    {
         return put(line, at, &id[..len]);
     }
-    named.name.put_hex(&mut line[at..]);
+    abbreviated.abbreviation.put_hex(&mut line[at..]);
     at + len
 }
 

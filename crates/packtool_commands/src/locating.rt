@@ -4,7 +4,7 @@ ghost use Rattle.std.specs.Prelude.{◌≡◌, ◌≢◌, ◌↔◌, ◌<◌, �
 ghost use Rattle.id_lookup.specs.Words.{hex_letter, id_digits, spelling};
 ghost use Rattle.object_store.specs.Several.{AreLocatedOfEach, HaveMoreLocations, IsLocationsFaultOfOne};
 ghost use Rattle.object_store.specs.Stores.{IsReopened};
-ghost use Rattle.packtool_commands.specs.Stores.{AreListed, HasLocatedEach, HasLocatedEachPart, IsFaultOf, limit_for, lines_at_after, located_lines, location_end, location_line, prefixes_of};
+ghost use Rattle.packtool_commands.specs.Stores.{AreListed, HasLocatedEach, HasBegunLocatedEach, IsFaultOf, limit_for, lines_at_after, located_lines, location_end, location_line, prefixes_of};
 ghost use Rattle.packtool_commands.specs.declared.error.StoreError.{StoreError};
 ghost use Rattle.streams.specs.Streams.{Wrote, lines_of};
 
@@ -14,7 +14,7 @@ use crate::line_buffer::{put, put_id};
 use crate::line_end::push;
 use crate::prefixes::PrefixLines;
 use crate::printing::{
-    Answers, ItemForm, ListForm, NoAnswer, limit_for, write_answers, write_each, write_front,
+    ItemForm, ListForm, NoAnswer, Wanted, limit_for, write_answers, write_each, write_front,
 };
 use crate::reopening::look_up_lines;
 use arrayvec::ArrayVec;
@@ -51,14 +51,14 @@ type End = ArrayVec<u8, 22>;
 ///
 /// ```
 /// let lines = PrefixLines::read(rt.alloc(), Kind::Sha1, b"4b8\n4b9\n")?;
-/// let why = locate_each(rt.alloc(), &mut store, &lines, Answers::One, 65_536, &mut out)?;
+/// let why = locate_each(rt.alloc(), &mut store, &lines, Wanted::One, 65_536, &mut out)?;
 /// println!(rt; "each of the two is one id: {}", why.is_none())?;
 /// ```
 pub fn locate_each<S: Reopen + StorePaths, A: Allocator + Copy, W: Sink>(
     alloc: A,
     store: &mut S,
     lines: &PrefixLines<'_, A>,
-    answers: Answers,
+    wanted: Wanted,
     most: usize,
     out: &mut W,
 ) -> Result<Option<NoAnswer>, StoreError>
@@ -66,23 +66,23 @@ pub fn locate_each<S: Reopen + StorePaths, A: Allocator + Copy, W: Sink>(
     requires listed { AreListed (S.view store.old) lines.now.prefixes.items }
     requires output { W.has_failed out.old ≡ false }
     ensures reopened { IsReopened S.had S.view store.old store.new }
-    ensures located { IfOk result (λ why. HasLocatedEach A answers (S.pack_path store.new)
+    ensures located { IfOk result (λ why. HasLocatedEach A wanted (S.pack_path store.new)
         (S.loose_paths store.new) (S.view store.new) (lines_of lines.now.text.now) why
         (W.taken out.old) (W.taken out.new)) }
-    ensures refused { IfErr result (IsFaultOf (IsLocationsFaultOfOne (limit_for answers)
+    ensures refused { IfErr result (IsFaultOf (IsLocationsFaultOfOne (limit_for wanted)
         (S.view store.new) lines.now.prefixes.items)) }
     ensures several { IsErrOf result StoreError.TooMany → 1 < length lines.now.prefixes.items }
-    ensures more { IsErrOf result StoreError.TooMany → HaveMoreLocations A (limit_for answers)
+    ensures more { IsErrOf result StoreError.TooMany → HaveMoreLocations A (limit_for wanted)
         (S.view store.new) (S.loose_paths store.new) most lines.now.prefixes.items }
     ensures untouched { IfErr result (λ e. e ≢ StoreError.Output → out.new ≡ out.old) }
     ensures output { IsErrOf result StoreError.Output ↔ (W.has_failed out.new ≡ true) }
-    ensures part { IsErrOf result StoreError.Output → HasLocatedEachPart A answers
+    ensures part { IsErrOf result StoreError.Output → HasBegunLocatedEach A wanted
         (S.pack_path store.new) (S.loose_paths store.new) (S.view store.new)
         (lines_of lines.now.text.now) (W.taken out.old) (W.taken out.new) }
 {
-    let located = locate_lines(alloc, store, lines, limit_for(answers), most)?;
+    let located = locate_lines(alloc, store, lines, limit_for(wanted), most)?;
     let form = ListForm {
-        answers,
+        wanted,
         item: LocationsForm { store: &*store },
     };
     Ok(write_answers(lines, &located, &form, out)?)

@@ -1,7 +1,7 @@
 //! Pack indexes and the packs beside them.
 
 ghost use Rattle.std.specs.Prelude.{◌≡◌, ◌≤◌, ℕ, List, Some, false, length, IfOk, IsTrue, MatchOption, OnErr};
-ghost use Rattle.pack_index.specs.Format.{Each, min_len, names_in};
+ghost use Rattle.pack_index.specs.Format.{Each, min_len, ids_in};
 ghost use Rattle.packtool_commands.specs.Files.{EndsIn, IsFirstBeyond, IsOffsetBelow, IsPairing, file_line, pairing_verdict};
 ghost use Rattle.streams.specs.Streams.{Wrote};
 
@@ -105,7 +105,7 @@ fn pairing_of(index: &File<'_>, last: Option<LastDigest>) -> Pairing
 // The first offset of an index that is not below an end.
 fn first_beyond(index: &File<'_>, end: u64) -> Option<u64>
     ensures { MatchOption result (Each (IsOffsetBelow index.now.kind index.now.bytes end)
-        (length (names_in index.now.kind index.now.bytes)))
+        (length (ids_in index.now.kind index.now.bytes)))
         (IsFirstBeyond index.now.kind index.now.bytes end) }
 {
     let count = index.num_objects();

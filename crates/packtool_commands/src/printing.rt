@@ -5,7 +5,7 @@ ghost use Rattle.std.specs.Io.KnownBytes.{Appends};
 ghost use Rattle.std.specs.Option.{option_map_or, option_or};
 ghost use Rattle.packtool_commands.specs.Stores.{answer_of, answers_by, found_text, front_text, limit_for, no_answer, no_answer_by, with_found};
 ghost use Rattle.packtool_commands.specs.declared.printing.NoAnswer.{NoAnswer};
-ghost use Rattle.streams.specs.Streams.{AppendsPart, Wrote, lines_of};
+ghost use Rattle.streams.specs.Streams.{AppendsBeginning, Wrote, lines_of};
 
 use crate::prefixes::{Line, PrefixLines};
 use std::alloc::Allocator;
@@ -18,10 +18,10 @@ use thiserror::Error as ThisError;
 ///
 /// ```
 /// let lines = PrefixLines::read(rt.alloc(), Kind::Sha1, b"4b8\n4b9\n")?;
-/// let all = find_each(rt.alloc(), &mut store, &lines, Answers::All, 65_536, &mut out)?;
+/// let all = find_each(rt.alloc(), &mut store, &lines, Wanted::All, 65_536, &mut out)?;
 /// ```
 #[derive(Clone, Copy, PartialEq, Eq, Debug)]
-pub enum Answers {
+pub enum Wanted {
     /// Each id that begins with it, after the line as it is and a space.
     All,
     /// The one id that begins with it.
@@ -34,19 +34,19 @@ pub enum Answers {
 
 /// How many ids of a prefix are looked up: all, or the first two, which show whether there are
 /// several.
-pub(crate) fn limit_for(answers: Answers) -> Option<usize>
-    ensures { result ≡ limit_for answers }
+pub(crate) fn limit_for(wanted: Wanted) -> Option<usize>
+    ensures { result ≡ limit_for wanted }
 {
-    match answers {
-        Answers::All | Answers::Bare => None,
-        Answers::One | Answers::BareOne => Some(2),
+    match wanted {
+        Wanted::All | Wanted::Bare => None,
+        Wanted::One | Wanted::BareOne => Some(2),
     }
 }
 
 /// The reason why a line has no answer.
 ///
 /// ```
-/// let why = find_each(rt.alloc(), &mut store, &lines, Answers::One, 65_536, &mut out)?;
+/// let why = find_each(rt.alloc(), &mut store, &lines, Wanted::One, 65_536, &mut out)?;
 /// if why == Some(NoAnswer::Ambiguous) {
 ///     println!(rt; "the first line that is no prefix of one id is one of several")?;
 /// }
@@ -97,7 +97,7 @@ pub(crate) fn write_answers<T, A: Allocator, F: AnswerForm<T>, W: Sink>(
     ensures why { IfOk result (λ why. why ≡ no_answer_by (F.no_answer form.now) lines.now.kind
         (lines_of lines.now.text.now) found.now) }
     ensures not_failed { OnOk result (W.has_failed out.new ≡ false) }
-    ensures part { OnErr result (AppendsPart (W.taken out.old) (W.taken out.new) (answers_by
+    ensures part { OnErr result (AppendsBeginning (W.taken out.old) (W.taken out.new) (answers_by
         (F.text form.now) lines.now.kind (lines_of lines.now.text.now) found.now)) }
     ensures failed { OnErr result (W.has_failed out.new ≡ true) }
 {
@@ -174,15 +174,15 @@ pub(crate) trait ItemForm<X> {
 #[derive(Drop)]
 pub(crate) struct ListForm<F> {
     /// What is asked for.
-    pub(crate) answers: Answers,
+    pub(crate) wanted: Wanted,
     /// How each is printed.
     pub(crate) item: F,
 }
 
 impl<X, A: Allocator, F: ItemForm<X>> AnswerForm<Vec<X, A>> for ListForm<F> {
-    ghost text = { λ form line ids. found_text (F.text form.item) form.answers line ids.items };
+    ghost text = { λ form line ids. found_text (F.text form.item) form.wanted line ids.items };
 
-    ghost no_answer = { λ form found. no_answer form.answers found.items };
+    ghost no_answer = { λ form found. no_answer form.wanted found.items };
 
     fn write<W: Sink>(
         &self,
@@ -190,15 +190,15 @@ impl<X, A: Allocator, F: ItemForm<X>> AnswerForm<Vec<X, A>> for ListForm<F> {
         found: &Vec<X, A>,
         out: &mut W,
     ) -> Result<(), WriteFailed> {
-        write_found(line, found, self.answers, &self.item, out)
+        write_found(line, found, self.wanted, &self.item, out)
     }
 
     fn no_answer(&self, found: &Vec<X, A>) -> Option<NoAnswer> {
         if found.is_empty() {
             return Some(NoAnswer::Missing);
         }
-        match self.answers {
-            Answers::One | Answers::BareOne if found.len() > 1 => Some(NoAnswer::Ambiguous),
+        match self.wanted {
+            Wanted::One | Wanted::BareOne if found.len() > 1 => Some(NoAnswer::Ambiguous),
             _ => None,
         }
     }
@@ -208,28 +208,28 @@ impl<X, A: Allocator, F: ItemForm<X>> AnswerForm<Vec<X, A>> for ListForm<F> {
 fn write_found<X, F: ItemForm<X>, W: Sink>(
     line: &[u8],
     found: &[X],
-    answers: Answers,
+    wanted: Wanted,
     form: &F,
     out: &mut W,
 ) -> Result<(), WriteFailed>
     requires { W.has_failed out.old ≡ false }
     ensures { Wrote W.taken W.has_failed out.old out.new result
-        (found_text (F.text form.now) answers line.now found.now) }
+        (found_text (F.text form.now) wanted line.now found.now) }
 {
     if found.is_empty() {
-        if matches!(answers, Answers::Bare | Answers::BareOne) {
+        if matches!(wanted, Wanted::Bare | Wanted::BareOne) {
             return Ok(());
         }
         return write_two(line, b" missing\n", out);
     }
-    match answers {
-        Answers::All => write_each(Some(line), found, form, out),
-        Answers::Bare => write_each(None, found, form, out),
-        Answers::One | Answers::BareOne if found.len() == 1 => {
+    match wanted {
+        Wanted::All => write_each(Some(line), found, form, out),
+        Wanted::Bare => write_each(None, found, form, out),
+        Wanted::One | Wanted::BareOne if found.len() == 1 => {
             form.write_after(None, &found[0], out)
         }
-        Answers::One => write_two(line, b" ambiguous\n", out),
-        Answers::BareOne => Ok(()),
+        Wanted::One => write_two(line, b" ambiguous\n", out),
+        Wanted::BareOne => Ok(()),
     }
 }
 

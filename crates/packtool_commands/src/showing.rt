@@ -3,8 +3,8 @@
 ghost use Rattle.std.specs.Prelude.{◌≡◌, ◌≢◌, ◌↔◌, ◌⊎◌, [], false, true, IfErr, IfOk, IfSome, IsErrOf, IsTrue, OnOk};
 ghost use Rattle.std.specs.Io.KnownBytes.{Consumes, IsAtEnd};
 ghost use Rattle.streams.specs.Streams.{Wrote};
-ghost use Rattle.pack_index.specs.Format.{names_in};
-ghost use Rattle.packtool_commands.specs.Files.{HasShown, HasShownPart, IsFileRefusal, IsKindByLength, IsOpenedAs, IsRefusalAs, index_lines};
+ghost use Rattle.pack_index.specs.Format.{ids_in};
+ghost use Rattle.packtool_commands.specs.Files.{HasShown, HasBegunShowing, IsFileRefusal, IsKindByLength, IsOpenedAs, IsRefusalAs, index_lines};
 ghost use Rattle.packtool_commands.specs.declared.error.FileError.{FileError};
 
 use crate::error::FileError;
@@ -44,7 +44,7 @@ pub fn show<A: Allocator, R: Source, W: Sink>(
     ensures input { IsErrOf result FileError.Input ↔ (R.has_failed input.new ≡ true) }
     ensures output { IsErrOf result FileError.Output ↔ (W.has_failed out.new ≡ true) }
     ensures part { IsErrOf result FileError.Output → IfSome (R.remaining input.old) (λ bytes.
-        HasShownPart kind bytes (W.taken out.old) (W.taken out.new)) }
+        HasBegunShowing kind bytes (W.taken out.old) (W.taken out.new)) }
 {
     let bytes = read_all(alloc, input)?;
     let file = open_index(&bytes, kind)?;
@@ -52,9 +52,9 @@ pub fn show<A: Allocator, R: Source, W: Sink>(
     Ok(has_names(&file))
 }
 
-// Whether an index has a name.
+// Whether an index has an id.
 fn has_names(file: &File<'_>) -> bool
-    ensures { IsTrue result ↔ (names_in file.now.kind file.now.bytes ≢ []) }
+    ensures { IsTrue result ↔ (ids_in file.now.kind file.now.bytes ≢ []) }
 {
     file.num_objects() > 0
 }

@@ -1,4 +1,4 @@
-//! A store of two packs and loose objects, whose ids, names and locations are known.
+//! A store of two packs and loose objects, whose ids, abbreviations and locations are known.
 
 use crate::memory::{Memory, Reads};
 use gix_hash::{Kind, ObjectId};
@@ -22,7 +22,7 @@ const SECOND: [&str; 3] = [
     "4b90000000000000000000000000000000000000",
 ];
 
-// The 8-byte offsets of the second pack, of its first two names.
+// The 8-byte offsets of the second pack, of its first two ids.
 const LONGS: [u64; 2] = [0x1_0000_000c, 0x7fff_ffff_ffff_ffff];
 
 const LOOSE: [&str; 3] = [

@@ -165,13 +165,14 @@ impl<'a> Memory<'a> {
 }
 
 impl<'a> Store for Memory<'a> {
-    ghost use Rattle.std.specs.Prelude.{◌∷◌, [], None, codes};
+    ghost use Rattle.std.specs.Prelude.{◌∷◌, [], None, codes, map};
+    ghost use Rattle.pack_index.specs.Lazy.{seen};
 
     type Source = Counted<'a>;
 
     ghost view = { λ store. record {
       kind = store.kind;
-      packs = store.packs.items;
+      packs = map seen store.packs.items;
       paths = codes "1.idx" ∷ codes "2.idx" ∷ [];
       loose = store.loose.ids;
       listed = None;

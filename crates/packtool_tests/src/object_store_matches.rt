@@ -1,4 +1,4 @@
-//! Look-ups of ids, a name and locations, where reads and memory fail.
+//! Look-ups of ids, an abbreviation and locations, where reads and memory fail.
 
 ghost use Rattle.std.specs.Prelude.{ℕ};
 ghost use Rattle.object_store.specs.Stores.{IsListed};
@@ -67,8 +67,8 @@ fn name_of<S: Store, A: Allocator + Copy>(
     Parts::new(alloc, store).abbreviate(&id, 4)
 }
 
-// A look-up of the ids that begin with `4b`, or of the locations or the name of the id that is
-// everywhere.
+// A look-up of the ids that begin with `4b`, or of the locations or the abbreviation of the id that
+// is everywhere.
 #[derive(Clone, Copy)]
 enum Asked {
     Ids,
@@ -119,7 +119,7 @@ fn outcome(
 }
 
 // What is found with so many reads. Two open an index, for its length and its head. A look-up of
-// ids reads the names of each index.
+// ids reads the ids of each index.
 const IDS: [&str; 7] = [
     "the pack index cannot be read: permission denied",
     "the pack index cannot be read: permission denied",

@@ -7,19 +7,19 @@ use pack_index::{LazyError, LazyFile};
 use std::alloc::{AllocError, Global};
 use std::test::Fail;
 
-// The first byte of all names.
+// The first byte of all ids.
 const FIRST_BYTE: u8 = 0x4b;
 
-// More names than 16 bits count.
+// More ids than 16 bits count.
 const MANY: u32 = 65_537;
 
-// So many names with a first byte are read without a search.
+// So many ids with a first byte are read without a search.
 const FEW: usize = 32;
 
-// No positions of names.
+// No positions of ids.
 const NONE: (u32, u32) = (u32::MAX, u32::MAX);
 
-// The name with these four bytes after the first, and zeros after them.
+// The id with these four bytes after the first, and zeros after them.
 fn name_of(kind: Kind, place: u32) -> ObjectId {
     let mut name = kind.null();
     let bytes = name.as_mut_slice();
@@ -28,8 +28,8 @@ fn name_of(kind: Kind, place: u32) -> ObjectId {
     name
 }
 
-// The bytes of an index of names that are so far apart, in order, but for two that are swapped. Its
-// CRCs and digests are zeros, and the offset of each name is 12 above its position.
+// The bytes of an index of ids that are so far apart, in order, but for two that are swapped. Its
+// CRCs and digests are zeros, and the offset of each id is 12 above its position.
 fn index_of(
     alloc: Global,
     kind: Kind,
@@ -69,7 +69,7 @@ fn place_at(at: u32, (first, second): (u32, u32)) -> u32 {
     }
 }
 
-// How many bytes of names are read for a name, its position, and its offset.
+// How many bytes of ids are read for an id, its position, and its offset.
 fn find(
     alloc: Global,
     index: &mut LazyFile<&[u8]>,
@@ -79,14 +79,14 @@ fn find(
         return Ok((0, None));
     }
     let bucket = index.part(alloc, &Prefix::from(*name), FEW)?;
-    let len = bucket.names().len();
+    let len = bucket.ids().len();
     match index.lookup(&bucket, name.as_oid()) {
         Some(at) => Ok((len, Some((at, index.pack_offset_at_index(at)?)))),
         None => Ok((len, None)),
     }
 }
 
-// The names that begin with a prefix of two digits or more.
+// The ids that begin with a prefix of two digits or more.
 fn matches(
     alloc: Global,
     index: &mut LazyFile<&[u8]>,
@@ -112,7 +112,7 @@ fn the_last_is_found(rt: HostRuntime) -> Result<(), Fail> {
     Ok(())
 }
 
-// After the first look-up some names are read for each, and found where they are. No other name is.
+// After the first look-up some ids are read for each, and found where they are. No other id is.
 #[test]
 fn each_is_found_among_some(rt: HostRuntime) -> Result<(), Fail> {
     let count = 1000;
@@ -138,7 +138,7 @@ fn each_is_found_among_some(rt: HostRuntime) -> Result<(), Fail> {
     Ok(())
 }
 
-// Names out of order are found at the second look-up as at the first.
+// Ids out of order are found at the second look-up as at the first.
 #[test]
 fn each_is_found_among_unsorted(rt: HostRuntime) -> Result<(), Fail> {
     let (count, step, swapped) = (100, u32::MAX / 100, (10, 90));
@@ -158,7 +158,7 @@ fn each_is_found_among_unsorted(rt: HostRuntime) -> Result<(), Fail> {
     Ok(())
 }
 
-// All names that begin with a prefix are among those that are read for it.
+// All ids that begin with a prefix are among those that are read for it.
 #[test]
 fn all_of_a_prefix_are_found(rt: HostRuntime) -> Result<(), Fail> {
     let bytes = index_of(rt.alloc(), Kind::Sha1, 1000, 1, NONE)?;
@@ -183,7 +183,7 @@ fn all_of_a_prefix_are_found(rt: HostRuntime) -> Result<(), Fail> {
     Ok(())
 }
 
-// If memory runs out as names are added to a list, it has what it had, and the first of them.
+// If memory runs out as ids are added to a list, it has what it had, and the first of them.
 #[test]
 fn a_list_keeps_its_ids_without_memory(rt: HostRuntime) -> Result<(), Fail> {
     let bytes = index_of(rt.alloc(), Kind::Sha1, MANY, 1, NONE)?;

@@ -4,7 +4,7 @@ use crate::content::Content;
 use crate::expecting::expect;
 use crate::memory::{Memory, Reads};
 use object_store::Store;
-use packtool_commands::{Answers, PrefixLines, StoreError, find_each, locate_each, names};
+use packtool_commands::{PrefixLines, StoreError, Wanted, abbreviate_all, find_each, locate_each};
 use std::process::Abort;
 use std::test::Fail;
 use streams::{IntoSlice, Sink};
@@ -37,7 +37,7 @@ const AMPLE: usize = 10_000;
 enum Asked {
     Find(&'static str),
     Locate(&'static str),
-    Names,
+    Abbreviate,
 }
 
 // Does what is asked for over the store.
@@ -51,14 +51,14 @@ fn run(
     assert!(rt; !out.failed());
     let (Asked::Find(prefix) | Asked::Locate(prefix)) = asked else {
         assert!(rt; kind.len_in_hex() >= 6);
-        return names(rt.alloc(), store, 6, out);
+        return abbreviate_all(rt.alloc(), store, 6, out);
     };
     // A single prefix may find more than this.
     let most = 0;
     let lines = PrefixLines::read(rt.alloc(), kind, prefix.as_bytes())?;
     let why = match asked {
-        Asked::Find(_) => find_each(rt.alloc(), store, &lines, Answers::Bare, most, out),
-        _ => locate_each(rt.alloc(), store, &lines, Answers::Bare, most, out),
+        Asked::Find(_) => find_each(rt.alloc(), store, &lines, Wanted::Bare, most, out),
+        _ => locate_each(rt.alloc(), store, &lines, Wanted::Bare, most, out),
     };
     Ok(why?.is_none())
 }
@@ -109,7 +109,7 @@ fn writes_fail_in_turn(rt: HostRuntime) -> Result<(), Fail> {
         }
     }
     for &room in &[0, 1, 47, 48, 49, 100, NAMED.len() - 1, NAMED.len()] {
-        expect_written(&rt, (Asked::Names, NAMED), AMPLE, room, room)?;
+        expect_written(&rt, (Asked::Abbreviate, NAMED), AMPLE, room, room)?;
     }
     Ok(())
 }
@@ -118,7 +118,7 @@ fn writes_fail_in_turn(rt: HostRuntime) -> Result<(), Fail> {
 #[test]
 fn writes_all(rt: HostRuntime) -> Result<(), Fail> {
     for &(asked, text, room) in &[
-        (Asked::Names, NAMED, 512),
+        (Asked::Abbreviate, NAMED, 512),
         (Asked::Locate("fe"), "", 0),
         (Asked::Find("fe"), "", 0),
     ] {
@@ -128,9 +128,10 @@ fn writes_all(rt: HostRuntime) -> Result<(), Fail> {
 }
 
 // How many reads there are before one fails, and how many bytes are written then, of locations and
-// of names. Four reads open the store. Two find the ids to locate. Then one reads the offset of the
-// first id, and three those of the second: the long one takes two. For the names of a first byte,
-// each pack that has ids with it is read once, and its lines are written before those of the next.
+// of abbreviations. Four reads open the store. Two find the ids to locate. Then one reads the
+// offset of the first id, and three those of the second: the long one takes two. For the ids of a
+// first byte, each pack that has any is read once, and its lines are written before those of the
+// next.
 const LOCATED_BY: [(usize, usize); 7] = [
     (4, 0),
     (5, 0),
@@ -160,7 +161,7 @@ fn reads_fail_in_turn(rt: HostRuntime) -> Result<(), Fail> {
         expect_written(&rt, (Asked::Locate("4b8"), LOCATED), left, 512, written)?;
     }
     for &(left, written) in &NAMED_BY {
-        expect_written(&rt, (Asked::Names, NAMED), left, 512, written)?;
+        expect_written(&rt, (Asked::Abbreviate, NAMED), left, 512, written)?;
     }
     Ok(())
 }
@@ -201,13 +202,13 @@ fn opens_again(rt: HostRuntime) -> Result<(), Fail> {
     }
     expect_reopened(&rt, &content, (Asked::Locate("4b8"), LOCATED), 9, AMPLE, 1)?;
     for &left in &[4, 5, 6, 7, 8] {
-        expect_reopened(&rt, &content, (Asked::Names, NAMED), left, AMPLE, 1)?;
+        expect_reopened(&rt, &content, (Asked::Abbreviate, NAMED), left, AMPLE, 1)?;
     }
-    expect_reopened(&rt, &content, (Asked::Names, NAMED), 4, 0, 9)
+    expect_reopened(&rt, &content, (Asked::Abbreviate, NAMED), 4, 0, 9)
 }
 
-// The names of ids with 11 first bytes, each of which takes one read.
-const SPREAD_NAMED: &str = "000000 0000000000000000000000000000000000000000
+// The abbreviations of ids with 11 first bytes, each of which takes one read.
+const SPREAD_ABBREVIATED: &str = "000000 0000000000000000000000000000000000000000
 111111 1111111111111111111111111111111111111111
 222222 2222222222222222222222222222222222222222
 333333 3333333333333333333333333333333333333333
@@ -224,5 +225,12 @@ aaaaaa aaaaaaaaaaaaaaaaaaaaaaaaaaaaaaaaaaaaaaaa
 #[test]
 fn opens_again_for_each_first_byte(rt: HostRuntime) -> Result<(), Fail> {
     let content = Content::spread(&rt)?;
-    expect_reopened(&rt, &content, (Asked::Names, SPREAD_NAMED), 4 + 1, 1, 10)
+    expect_reopened(
+        &rt,
+        &content,
+        (Asked::Abbreviate, SPREAD_ABBREVIATED),
+        4 + 1,
+        1,
+        10,
+    )
 }

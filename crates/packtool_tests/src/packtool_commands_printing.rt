@@ -6,7 +6,7 @@ use crate::memory::{Memory, Reads};
 use linked_list_allocator::LocalHeap;
 use object_store::Store;
 use packtool_commands::{
-    Answers, NoAnswer, PrefixLines, StoreError, find_each, locate_each, name_each,
+    NoAnswer, PrefixLines, StoreError, Wanted, abbreviate_each, find_each, locate_each,
 };
 use std::alloc::{AllocError, Allocator, Global};
 use std::process::Abort;
@@ -81,33 +81,33 @@ ffffff
 // What is asked for of each line.
 #[derive(Clone, Copy, Debug)]
 enum Asked {
-    Find(Answers),
-    Locate(Answers),
-    Names,
+    Find(Wanted),
+    Locate(Wanted),
+    Abbreviate,
 }
 
 // What is asked for of which lines, whether each line has an answer, and what is printed.
 const ROWS: [(Asked, &str, bool, &str); 10] = [
-    (Asked::Find(Answers::All), LINES, false, FOUND),
-    (Asked::Find(Answers::One), LINES, false, FOUND_ONE),
-    (Asked::Locate(Answers::All), LINES, false, LOCATED),
-    (Asked::Locate(Answers::One), LINES, false, LOCATED_ONE),
-    (Asked::Names, LINES, false, NAMED),
+    (Asked::Find(Wanted::All), LINES, false, FOUND),
+    (Asked::Find(Wanted::One), LINES, false, FOUND_ONE),
+    (Asked::Locate(Wanted::All), LINES, false, LOCATED),
+    (Asked::Locate(Wanted::One), LINES, false, LOCATED_ONE),
+    (Asked::Abbreviate, LINES, false, NAMED),
     (
-        Asked::Find(Answers::One),
+        Asked::Find(Wanted::One),
         "4b9\n",
         true,
         "4b90000000000000000000000000000000000000\n",
     ),
     (
-        Asked::Locate(Answers::One),
+        Asked::Locate(Wanted::One),
         "4b9\n",
         true,
         "4b90000000000000000000000000000000000000 2.pack 3074\n",
     ),
-    (Asked::Names, "4b9\nff", true, "4b9000\nffffff\n"),
-    (Asked::Locate(Answers::One), "4b\n", false, "4b ambiguous\n"),
-    (Asked::Find(Answers::BareOne), "4b8", false, ""),
+    (Asked::Abbreviate, "4b9\nff", true, "4b9000\nffffff\n"),
+    (Asked::Locate(Wanted::One), "4b\n", false, "4b ambiguous\n"),
+    (Asked::Find(Wanted::BareOne), "4b8", false, ""),
 ];
 
 // More than are made when a store is opened and all of it is read.
@@ -129,9 +129,9 @@ fn run<A: Allocator + Copy>(
     match asked {
         Asked::Find(answers) => find_each(alloc, store, &lines, answers, MOST, out),
         Asked::Locate(answers) => locate_each(alloc, store, &lines, answers, MOST, out),
-        Asked::Names => {
+        Asked::Abbreviate => {
             assert!(rt; store.object_hash().len_in_hex() >= 6);
-            name_each(alloc, store, &lines, 6, MOST, out)
+            abbreviate_each(alloc, store, &lines, 6, MOST, out)
         }
     }
 }
@@ -194,16 +194,16 @@ const MANY: usize = 8_193;
 // What is asked for of many equal lines, the line, and what is printed for each.
 const MANY_ROWS: [(Asked, &str, &str); 3] = [
     (
-        Asked::Find(Answers::One),
+        Asked::Find(Wanted::One),
         "4b9\n",
         "4b90000000000000000000000000000000000000\n",
     ),
     (
-        Asked::Locate(Answers::One),
+        Asked::Locate(Wanted::One),
         "4b9\n",
         "4b90000000000000000000000000000000000000 2.pack 3074\n",
     ),
-    (Asked::Names, "4b9\n", "4b9000\n"),
+    (Asked::Abbreviate, "4b9\n", "4b9000\n"),
 ];
 
 // A text, repeated for many lines.

@@ -1,6 +1,7 @@
 mod Entries
 pub mod HexBytes
 mod LineEnds
+mod OneKind
 mod Quoted
 mod Sets
 mod Settings

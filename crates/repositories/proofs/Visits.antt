@@ -1,10 +1,11 @@
 -- A walk over directories and their alternates, path by path.
-use Rattle.gix_hash.proofs.Std.{◌≡◌, ◌↔◌, ◌∙◌, ◌+◌, ◌-◌, ◌<◌, ◌∷◌, ◌++◌, ◌==◌, [], Bool, IsTrue, List, Option, Some, add-one, ap, ap₂, append-nil, arith, drop, drop-cons, false, get_or, if◌then◌else◌, length, map, refl, suc, sym, true, zero, ℕ}
+use Rattle.gix_hash.proofs.Std.{◌≡◌, ◌↔◌, ◌∙◌, ◌+◌, ◌-◌, ◌<◌, ◌∷◌, ◌++◌, ◌==◌, [], Bool, IsTrue, List, None, Option, Some, add-one, ap, ap₂, append-nil, arith, drop, drop-cons, false, get_or, if◌then◌else◌, length, map, refl, suc, sym, true, zero, ℕ}
 use Rattle.std.specs.Path.{path_join}
 use Rattle.std.specs.Str.{IsUtf8, is_utf8}
 use Rattle.std.proofs.lemmas.Str.{IsUtf8-from_is_utf8, is_utf8-from_IsUtf8}
 use Rattle.repositories.specs.Answers.{◌>>=◌, Answers}
-use Rattle.repositories.specs.Walks.{Walk, each, visit, visit_below, skip, with_path, with_paths}
+use Rattle.repositories.specs.Walks.{Walk, each, list_at, visit, visit_below, skip, walk_from, with_directory, with_path, with_paths}
+use Rattle.repositories.specs.declared.files.FileNumber.{FileNumber}
 
 -- a test for UTF-8 is its test by definition
 pub text_is : (b : Bool) (path : List ℕ) → IsTrue b ↔ IsUtf8 path → b ≡ is_utf8 path
@@ -41,14 +42,31 @@ pub each_next : {X : Type 0} (path_of : X → List ℕ) (visit_one : List ℕ �
 each_next path_of visit_one paths i path walk next at in_range is visited =
     ap (λ left. each visit_one (map path_of left) walk at) (drop_next paths i path in_range is) ∙ ap (λ found. found >>= λ walk. each visit_one (map path_of (drop (i + 1) paths)) walk at) visited
 
+-- what was visited next failed
+pub each_fails : {X : Type 0} (path_of : X → List ℕ) (visit_one : List ℕ → Walk → Answers → Option Walk) (paths : List X) (i : ℕ) (path : X) (walk : Walk) (at : Answers) → i < length paths → path ≡ get_or paths i path
+    → visit_one (path_of path) walk at ≡ None → each visit_one (map path_of (drop i paths)) walk at ≡ None
+each_fails path_of visit_one paths i path walk at in_range is fails =
+    ap (λ left. each visit_one (map path_of left) walk at) (drop_next paths i path in_range is) ∙ ap (λ found. found >>= λ walk. each visit_one (map path_of (drop (i + 1) paths)) walk at) fails
+
 -- a directory was visited where no level is left for its alternates, or they were visited as well
 pub below_none : (levels : ℕ) (path : List ℕ) (walk next : Walk) (paths : List (List ℕ)) (at : Answers) → levels ≡ 0 → visit levels path walk at ≡ Some (next, paths) → visit_below levels path walk at ≡ Some next
 unfolding visit_below
 below_none zero path walk next paths at none visited = ap (λ found. found >>= λ found. Some found.0) visited
 below_none (suc less) path walk next paths at none visited = absurd (omega arith)
 
-pub below_more : (levels : ℕ) (path : List ℕ) (walk mid next : Walk) (paths : List (List ℕ)) (at : Answers) → 0 < levels → visit levels path walk at ≡ Some (mid, paths) → each (visit_below (levels - 1)) paths mid at ≡ Some next → visit_below levels path walk at ≡ Some next
+pub below_more : (levels : ℕ) (path : List ℕ) (walk mid : Walk) (next : Option Walk) (paths : List (List ℕ)) (at : Answers) → 0 < levels → visit levels path walk at ≡ Some (mid, paths) → each (visit_below (levels - 1)) paths mid at ≡ next → visit_below levels path walk at ≡ next
 unfolding visit_below
 below_more zero path walk mid next paths at some visited more = absurd (omega arith)
 below_more (suc less) path walk mid next paths at some visited more =
     ap (λ found. found >>= λ found. each (visit_below less) found.1 found.0 at) visited ∙ ap (λ n. each (visit_below n) paths mid at) (let e : less ≡ suc less - 1 = omega arith in e) ∙ more
+
+pub below_fails : (levels : ℕ) (path : List ℕ) (walk : Walk) (at : Answers) → visit levels path walk at ≡ None → visit_below levels path walk at ≡ None
+unfolding visit_below
+below_fails zero path walk at fails = ap (λ found. found >>= λ found. Some found.0) fails
+below_fails (suc less) path walk at fails = ap (λ found. found >>= λ found. each (visit_below less) found.1 found.0 at) fails
+
+-- a directory with the alternates of the environment was visited, and its list was read
+pub walked : (real : List ℕ × Option FileNumber) (given paths : List (List ℕ)) (walk mid listed : Walk) (found : Option Walk) (at : Answers) → each (visit_below 6) given (with_directory real walk) at ≡ Some mid → list_at real.0 mid at ≡ Some (listed, paths)
+    → each (visit_below 6) paths listed at ≡ found → walk_from real given walk at ≡ found
+walked real given paths walk mid listed found at first list rest =
+    ap (λ found. found >>= λ walk. list_at real.0 walk at >>= λ found. each (visit_below 6) found.1 found.0 at) first ∙ ap (λ found. found >>= λ found. each (visit_below 6) found.1 found.0 at) list ∙ rest

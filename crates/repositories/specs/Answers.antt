@@ -49,6 +49,11 @@ IsFound view (Err error) found = is_memory error ≡ false → found ≡ None
 abbrev pub Finds : {X Y : Type 0} → (X → Y) → Result X Error → (Answers → Option Y) → Option Answers → Type 0
 Finds view result found = IfKnown (λ at. IsFound view result (found at))
 
+-- what a function returned fits the answers, if they are known. It is an error only where nothing fits them, or where memory ran out
+abbrev pub FindsOne : {X : Type 0} → (X → Answers → Type 0) → Result X Error → Option Answers → Type 0
+FindsOne Fits (Ok x) known = IfKnown (Fits x) known
+FindsOne {X = X} Fits (Err error) known = is_memory error ≡ false → IfKnown (λ at. (x : X) → ¬ Fits x at) known
+
 infixl 10 ◌>>=◌
 -- what a function says of what is found, if that can be said
 abbrev pub ◌>>=◌ : {A B : Type 0} → Option A → (A → Option B) → Option B

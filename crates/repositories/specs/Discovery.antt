@@ -1,8 +1,9 @@
 -- Where a repository and its objects are, as Git finds them (setup.c): by what directories and files answer, and by the environment.
-use Rattle.std.specs.Prelude.{◌≡◌, ◌⊎◌, ℕ, zero, suc, ◌&&◌, ◌||◌, ◌-◌, ◌==◌, Bool, false, if◌then◌else◌, Option, Some, None, Ok, Err, List, [], bytes_eq, codes, drop, length, map, nat_eq, option_and_then, option_map, string_bytes, take, unwrap_or}
-use Rattle.std.specs.List.{starts_with, suffix_len}
+use Rattle.std.specs.Prelude.{◌≡◌, ◌⊎◌, ℕ, zero, suc, ◌&&◌, ◌||◌, ◌-◌, ◌==◌, Bool, false, true, if◌then◌else◌, Option, Some, None, Ok, Err, List, [], bytes_eq, codes, drop, length, map, nat_eq, option_and_then, option_map, string_bytes, take, unwrap_or}
+use Rattle.std.specs.List.{list_all, starts_with, suffix_len}
 use Rattle.std.specs.Path.{path_join, path_parent}
 use Rattle.std.specs.Result.{result_ok}
+use Rattle.std.specs.Str.{is_utf8}
 use Rattle.gix_hash.specs.declared.Kind.{Kind}
 use Rattle.gix_hash.specs.declared.Kind.TheVariants.{Sha1}
 use Rattle.repositories.specs.Alternates.{paths_named}
@@ -165,10 +166,27 @@ alternate_in top path = if length path == 0 then [] else path_join top path
 abbrev pub alternates_of : Environment → List ℕ → List (List ℕ)
 alternates_of given top = elim given.alternate_object_directories [ Some list ↦ map (alternate_in top) (paths_named 58 (string_bytes list)) | None ↦ [] ]
 
--- the object directory is that of the repository, or else that of the environment: its path, the kind of its ids, and the alternates that the environment adds
-abbrev pub IsObjectDirectory : Environment → Option (List ℕ) → ObjectDirectory → Answers → Type 0
-IsObjectDirectory given here directory at = let path = string_bytes directory.path in let alternates = map string_bytes directory.alternates.items in elim (find given here at) [
-  | Some (Some found) ↦ (path ≡ objects_of given found) × HasKind found.directory directory.kind at × (alternates ≡ alternates_of given found.top)
-  | Some None ↦ (Some path ≡ option_map string_bytes given.object_directory) × HasKindBeside path directory.kind at × (alternates ≡ alternates_of given [])
+-- whether all alternates of the environment are UTF-8, also those that it quotes
+abbrev pub are_text : Environment → Bool
+are_text given = elim given.alternate_object_directories [ Some list ↦ list_all is_utf8 (paths_named 58 (string_bytes list)) | None ↦ true ]
+
+-- the path of the object directory, that of the repository or else that of the environment, and the alternates that the environment adds
+abbrev pub found_objects : Environment → Option Repository → Option (List ℕ × List (List ℕ))
+found_objects given (Some found) = Some (objects_of given found, alternates_of given found.top)
+found_objects given None = option_map (λ path. (path, alternates_of given [])) (option_map string_bytes given.object_directory)
+
+-- the same, by what Git finds from the current directory
+abbrev pub find_objects : Environment → Option (List ℕ) → Answers → Option (List ℕ × List (List ℕ))
+find_objects given here at = find given here at >>= found_objects given
+
+-- the kind of the ids of an object directory is that of the repository, or else the one by the config beside the directory
+abbrev pub HasKindFound : Environment → Option (List ℕ) → ObjectDirectory → Answers → Type 0
+HasKindFound given here directory at = elim (find given here at) [
+  | Some (Some found) ↦ HasKind found.directory directory.kind at
+  | Some None ↦ HasKindBeside (string_bytes directory.path) directory.kind at
   | None ↦ ⊥
 ]
+
+-- no kind is that of the ids of the object directory that is found
+abbrev pub HasNoKindFound : Environment → Option (List ℕ) → Answers → Type 0
+HasNoKindFound given here at = (directory : ObjectDirectory) → find_objects given here at ≡ Some (string_bytes directory.path, map string_bytes directory.alternates.items) → ¬ HasKindFound given here directory at

@@ -1,9 +1,10 @@
 //! Why a repository, its object directory or one of its files cannot be found or read.
 
-ghost use Rattle.std.specs.Prelude.{◌≡◌, true};
+ghost use Rattle.std.specs.Prelude.{◌≡◌, None, true};
 ghost use Rattle.std.specs.IoError.{error_kind};
 ghost use Rattle.std.specs.declared.io.ErrorKind.{ErrorKind};
 ghost use Rattle.repositories.specs.Answers.{is_memory};
+ghost use Rattle.repositories.specs.Formats.{reported};
 
 use crate::config::ConfigError;
 use std::alloc::{AllocError, AllocFailed, Global};
@@ -155,8 +156,11 @@ impl Error {
         }
     }
 
-    // Makes the error for a config that does not say a kind.
-    pub(crate) fn config(alloc: Global, path: &str, error: ConfigError) -> Error {
+    // Makes the error for a config that does not say a kind. It is `Memory` if memory ran out for
+    // the config or runs out for the error.
+    pub(crate) fn config(alloc: Global, path: &str, error: ConfigError) -> Error
+        ensures { reported error ≡ None → is_memory result ≡ true }
+    {
         match (String::from_str(alloc, path), error) {
             (_, ConfigError::Memory(error)) | (Err(error), _) => Error::Memory(error),
             (Ok(path), error) => Error::of(alloc, Cause::Config { path, error }),

@@ -6,7 +6,7 @@ ghost use Rattle.std.specs.Path.{path_join, path_parent};
 ghost use Rattle.std.specs.Result.{result_ok};
 ghost use Rattle.std.specs.Str.{IsUtf8};
 ghost use Rattle.std.specs.declared.io.ErrorKind.{ErrorKind};
-ghost use Rattle.repositories.specs.Answers.{Answered, Finds, IfKnown, IsFound, is_memory};
+ghost use Rattle.repositories.specs.Answers.{Answered, Finds, FindsOne, IsFound, is_memory};
 ghost use Rattle.repositories.specs.Discovery.{ConfigSays, HasKind, HasKindBeside};
 ghost use Rattle.repositories.specs.Lookups.{as_text, if_found, if_there, is_file, is_directory, is_missing, real_directory, short_file};
 ghost use Rattle.repositories.specs.Views.{directory_of};
@@ -165,6 +165,8 @@ pub(crate) struct RealDirectory {
     pub(crate) path: String,
     // Its number, if its absolute path is not UTF-8.
     pub(crate) number: Option<FileNumber>,
+    // The number of what the path led to before its links were followed.
+    pub(crate) seen: FileNumber,
 }
 
 // The number of a file system, and that of a directory in it.
@@ -183,11 +185,17 @@ pub(crate) fn real_directory<R: Directories>(rt: &R, path: &str) -> io::Result<R
     if !found.is_directory {
         return Err(ErrorKind::NotADirectory.into());
     }
+    let seen = found.state.number();
     match rt.real_path(path) {
-        Ok(path) => Ok(RealDirectory { path, number: None }),
+        Ok(path) => Ok(RealDirectory {
+            path,
+            number: None,
+            seen,
+        }),
         Err(error) if error.kind() == ErrorKind::InvalidFilename => Ok(RealDirectory {
             path: String::from_str(rt.alloc(), path)?,
-            number: Some(found.state.number()),
+            number: Some(seen),
+            seen,
         }),
         Err(error) => Err(error),
     }
@@ -265,7 +273,7 @@ pub(crate) fn has_directory<R: Directories>(
 
 // The kind of a repository's ids by the config in a directory. It is SHA-1 if there is no config.
 pub(crate) fn kind_by_config<R: Directories>(rt: &R, directory: &str) -> Result<Kind, Error>
-    ensures { IfOk result (λ kind. IfKnown (HasKind directory.now kind) (R.answers rt.now)) }
+    ensures { FindsOne (HasKind directory.now) result (R.answers rt.now) }
 {
     match kind_if_config(rt, directory)? {
         Some(kind) => Ok(kind),
@@ -276,7 +284,7 @@ pub(crate) fn kind_by_config<R: Directories>(rt: &R, directory: &str) -> Result<
 // The kind of the ids of an object directory by the config beside it. It is SHA-1 if there is no
 // config. If the directory is a link, the config is beside the directory, or else beside the link.
 pub(crate) fn kind_beside<R: Directories>(rt: &R, objects: &str) -> Result<Kind, Error>
-    ensures { IfOk result (λ kind. IfKnown (HasKindBeside objects.now kind) (R.answers rt.now)) }
+    ensures { FindsOne (HasKindBeside objects.now) result (R.answers rt.now) }
 {
     let above = join(rt, objects, "..")?;
     match kind_if_config(rt, &above)? {
@@ -287,7 +295,7 @@ pub(crate) fn kind_beside<R: Directories>(rt: &R, objects: &str) -> Result<Kind,
 
 // The kind by the config in a directory, or `None` if there is no config.
 fn kind_if_config<R: Directories>(rt: &R, directory: &str) -> Result<Option<Kind>, Error>
-    ensures { IfOk result (λ kind. IfKnown (ConfigSays directory.now kind) (R.answers rt.now)) }
+    ensures { FindsOne (ConfigSays directory.now) result (R.answers rt.now) }
 {
     let path = join(rt, directory, "config")?;
     let Some(text) = read_short(rt, &path, MAX_CONFIG, TextFault::LargeConfig)? else {

@@ -1,8 +1,10 @@
 //! Finds object directories: that of the repository that a program runs in, and others by path.
 
-ghost use Rattle.std.specs.Prelude.{◌≡◌, ◌++◌, ◌∷◌, suc, IfOk, OnOk, Some, [], map, option_copied, option_map, string_bytes, true};
-ghost use Rattle.repositories.specs.Answers.{Finds, IfKnown};
-ghost use Rattle.repositories.specs.Discovery.{HasKind, HasKindBeside, IsObjectDirectory, alternate_in, alternates_of, objects_of};
+ghost use Rattle.std.specs.Prelude.{◌≡◌, ◌≢◌, ◌⊎◌, ◌++◌, ◌∷◌, ℕ, suc, IfErr, IfOk, List, None, OnOk, Some, [], false, map, option_copied, option_map, string_bytes, true};
+ghost use Rattle.std.specs.List.{list_all};
+ghost use Rattle.std.specs.Str.{is_utf8};
+ghost use Rattle.repositories.specs.Answers.{Finds, IfKnown, is_memory};
+ghost use Rattle.repositories.specs.Discovery.{HasKind, HasKindBeside, HasKindFound, HasNoKindFound, alternate_in, alternates_of, are_text, find_objects, objects_of};
 ghost use Rattle.repositories.specs.Stores.{has_fan_out, hex_of, is_store};
 ghost use Rattle.repositories.specs.Views.{repository_of};
 
@@ -59,6 +61,9 @@ impl ObjectDirectory {
             (R.answers rt.now)) }
         ensures kind { IfOk result (λ directory. IfKnown (HasKindBeside path.now directory.kind)
             (R.answers rt.now)) }
+        ensures err { IfErr result (λ error. is_memory error ≡ false → IfKnown (λ at.
+            (is_store path.now at ≢ Some true) ⊎ ((kind : Kind) → ¬ HasKindBeside path.now kind at))
+            (R.answers rt.now)) }
     {
         if !is_store(rt, path)? {
             return Err(no_store(rt, path)?);
@@ -74,8 +79,10 @@ impl ObjectDirectory {
 
 /// Finds the object directory of the repository that a program runs in, as Git does, except that
 /// `$GIT_CEILING_DIRECTORIES`, `$GIT_DISCOVERY_ACROSS_FILESYSTEM`, `$GIT_WORK_TREE`,
-/// `core.worktree`, `safe.directory` and `safe.bareRepository` are ignored, and that with
-/// `$GIT_OBJECT_DIRECTORY` no repository is needed.
+/// `core.worktree`, `safe.directory` and `safe.bareRepository` are ignored, that with
+/// `$GIT_OBJECT_DIRECTORY` no repository is needed, and that it is an error, where Git goes on to
+/// the directory above, if `.git`, `HEAD` or `objects` cannot be read or `commondir` names no
+/// directory.
 ///
 /// The repository is that of `$GIT_DIR`, or else of the current directory or the first above it
 /// that has one: as `.git`, which is a directory or a gitfile, or as a bare repository. The
@@ -120,8 +127,16 @@ pub fn find_objects_in<R: Directories>(
     given: &Environment,
     here: Option<&str>,
 ) -> Result<ObjectDirectory, Error>
-    ensures { IfOk result (λ found. IfKnown
-        (IsObjectDirectory given.now (option_copied here.entry) found) (R.answers rt.now)) }
+    ensures place { IfOk result (λ found. IfKnown (λ at.
+        find_objects given.now (option_copied here.entry) at
+        ≡ Some (string_bytes found.path, map string_bytes found.alternates.items))
+        (R.answers rt.now)) }
+    ensures kind { IfOk result (λ found. IfKnown
+        (HasKindFound given.now (option_copied here.entry) found) (R.answers rt.now)) }
+    ensures err { IfErr result (λ error. is_memory error ≡ false → IfKnown (λ at.
+        (find_objects given.now (option_copied here.entry) at ≡ None)
+        ⊎ (HasNoKindFound given.now (option_copied here.entry) at
+        ⊎ (are_text given.now ≡ false))) (R.answers rt.now)) }
 {
     let search = Search { rt, given };
     match search.find(here)? {
@@ -142,6 +157,9 @@ fn objects_of<R: Directories>(
         (HasKind (string_bytes repository.now.directory) found.kind) (R.answers rt.now)) }
     ensures alternates { IfOk result (λ found. map string_bytes found.alternates.items
         ≡ alternates_of given.now (string_bytes repository.now.top)) }
+    ensures err { IfErr result (λ error. is_memory error ≡ false → IfKnown (λ at.
+        ((kind : Kind) → ¬ HasKind (string_bytes repository.now.directory) kind at)
+        ⊎ (are_text given.now ≡ false)) (R.answers rt.now)) }
 {
     let kind = kind_by_config(rt, &repository.directory)?;
     let path = match &given.object_directory {
@@ -163,6 +181,10 @@ fn objects_given<R: Directories>(rt: &R, given: &Environment) -> Result<ObjectDi
         (HasKindBeside (string_bytes found.path) found.kind) (R.answers rt.now)) }
     ensures alternates { IfOk result (λ found. map string_bytes found.alternates.items
         ≡ alternates_of given.now []) }
+    ensures err { IfErr result (λ error. is_memory error ≡ false → IfKnown (λ at.
+        ((path : List ℕ) (kind : Kind) → Some path ≡ option_map string_bytes
+        given.now.object_directory → ¬ HasKindBeside path kind at)
+        ⊎ (are_text given.now ≡ false)) (R.answers rt.now)) }
 {
     let Some(path) = &given.object_directory else {
         return Err(Error::of(rt.alloc(), Cause::NoRepository));
@@ -177,8 +199,9 @@ fn objects_given<R: Directories>(rt: &R, given: &Environment) -> Result<ObjectDi
 
 // The directories that `$GIT_ALTERNATE_OBJECT_DIRECTORIES` names, by paths from the top.
 fn alternates(rt: &impl AllocGlobal, given: &Environment, top: &str) -> Result<Vec<String>, Error>
-    ensures { IfOk result (λ alternates. map string_bytes alternates.items
+    ensures ok { IfOk result (λ alternates. map string_bytes alternates.items
         ≡ alternates_of given.now top.now) }
+    ensures err { IfErr result (λ error. is_memory error ≡ false → are_text given.now ≡ false) }
 {
     match &given.alternate_object_directories {
         Some(list) => {
@@ -191,8 +214,10 @@ fn alternates(rt: &impl AllocGlobal, given: &Environment, top: &str) -> Result<V
 
 // The directories at these paths from the top.
 fn alternates_in(rt: &impl AllocGlobal, top: &str, named: &[Vec<u8>]) -> Result<Vec<String>, Error>
-    ensures { IfOk result (λ alternates. map string_bytes alternates.items
+    ensures ok { IfOk result (λ alternates. map string_bytes alternates.items
         ≡ map (alternate_in top.now) (map (λ path. path.items) named.now)) }
+    ensures err { IfErr result (λ error. is_memory error ≡ false
+        → list_all is_utf8 (map (λ path. path.items) named.now) ≡ false) }
 {
     let mut alternates = Vec::new(rt.alloc());
     for path in named {
@@ -208,8 +233,9 @@ fn push_alternate(
     path: &[u8],
     alternates: &mut Vec<String>,
 ) -> Result<(), Error>
-    ensures { OnOk result (map string_bytes alternates.new.items
+    ensures ok { OnOk result (map string_bytes alternates.new.items
         ≡ map string_bytes alternates.old.items ++ alternate_in top.now path.now ∷ []) }
+    ensures err { IfErr result (λ error. is_memory error ≡ false → is_utf8 path.now ≡ false) }
 {
     if path.is_empty() {
         alternates.push(String::new(rt.alloc()))?;

@@ -13,6 +13,7 @@ mod directories;
 mod error;
 mod files;
 mod finding;
+mod look;
 mod object_directories;
 mod repository;
 mod state;

@@ -1,20 +1,21 @@
 //! Finds an object directory and its alternates.
 
-ghost use Rattle.std.specs.Prelude.{◌≡◌, ◌≢◌, [], IfOk, OnOk, Some, codes, map, string_bytes};
+ghost use Rattle.std.specs.Prelude.{◌≡◌, ◌≢◌, ◌++◌, ◌∷◌, [], All, IfErr, IfOk, IsTrue, OnOk, Some, codes, map, string_bytes, true};
 ghost use Rattle.std.specs.IoError.{error_kind};
 ghost use Rattle.std.specs.Path.{path_join};
 ghost use Rattle.std.specs.declared.io.ErrorKind.{ErrorKind};
-ghost use Rattle.repositories.specs.Answers.{IfKnown};
+ghost use Rattle.repositories.specs.Answers.{Finds, IfKnown, is_memory};
 ghost use Rattle.repositories.specs.Views.{directory_of};
-ghost use Rattle.repositories.specs.Walks.{directories_of, each, has, list_at, skip, text_at, visit, visit_below, walk_from, walk_of, with_alternates, with_first, with_directory, with_path, with_paths};
+ghost use Rattle.repositories.specs.Walks.{IsSeen, directories_of, each, has, list_at, look_at, looked_at, noted, skip, skip_unusable, text_at, visit, visit_below, walk_from, walk_of, with_alternates, with_first, with_directory, with_path, with_paths};
 
 use crate::alternates::alternate_paths;
 use crate::directories::Directories;
 use crate::error::{Error, TextFault};
 use crate::files::{
-    RealDirectory, existing_directory, if_there, is_missing, join, push_path, real_directory,
+    RealDirectory, existing_directory, is_missing, join, push_path, read_if_there, real_directory,
 };
 use crate::finding::{ALTERNATES, ObjectDirectory};
+use crate::look::{Look, Seen, first_above};
 use crate::state::FileState;
 use crate::walk::Walk;
 use std::alloc::AllocError;
@@ -31,40 +32,32 @@ pub struct ObjectDirectories {
     /// The path of the directory as it was given, and the absolute paths of the alternates. An
     /// alternate whose absolute path is not UTF-8 has the path by which it was found.
     pub paths: Vec<String>,
-    /// The states that the lists of alternates had before they were read, and those of the
-    /// alternates that cannot be used, in the order in which they were looked at.
-    pub states: Vec<FileState>,
-    /// Why other alternates are skipped: each is missing, not a directory, cannot be read or is
-    /// nested too deep. The error has the path of the alternate, or the name of the variable if the
-    /// path begins with a NUL there.
+    /// Why other alternates are skipped: each is missing, not a directory, cannot be reached or is
+    /// nested too deep, or its path in a list is not UTF-8. The error has the path of the alternate
+    /// or of the list, or the name of the variable if the path begins with a NUL there.
     pub skipped: Vec<Error>,
+    // What was seen where a list of alternates may be, before it was read, and at the alternates.
+    looks: Vec<Look>,
+    // The states of directories above what is missing.
+    looks_above: Vec<Look>,
 }
 
 impl ObjectDirectories {
-    /// Whether [`with_alternates`] would find the same directories and states now. If there was no
-    /// list and the environment adds no alternates, the call only looks for a list. Otherwise it
-    /// reads all again. The errors are those of `with_alternates`.
+    /// Whether each alternate leads to the same directory as when it was found, the states of the
+    /// lists of alternates and of missing alternates are the same, and what could not be used for
+    /// another reason cannot be used still. All are looked at, and none is read. What cannot be
+    /// looked at any more has changed.
     ///
     /// ```
-    /// let objects = find_objects(rt)?;
-    /// let directories = with_alternates(rt, &objects)?;
-    /// println!(rt; "{}", directories.are_unchanged(rt, &objects)?)?;
+    /// let directories = with_alternates(rt, &find_objects(rt)?)?;
+    /// println!(rt; "{}", directories.are_unchanged(rt))?;
     /// ```
-    pub fn are_unchanged<R: Directories>(
-        &self,
-        rt: &R,
-        objects: &ObjectDirectory,
-    ) -> Result<bool, Error> {
-        if let [state] = self.states.as_slice()
-            && state.is_missing()
-            && objects.alternates.is_empty()
-        {
-            let list = list_path(rt, &objects.path)?;
-            let now = FileState::of(rt, &list);
-            return Ok(now.map_err(|error| Error::file(rt.alloc(), &list, error))? == *state);
-        }
-        let now = with_alternates(rt, objects)?;
-        Ok(self.paths == now.paths && self.states == now.states)
+    pub fn are_unchanged<R: Directories>(&self, rt: &R) -> bool
+        ensures { IsTrue result → IfKnown (λ at. All (IsSeen at) self.now.looks.items
+            × All (IsSeen at) self.now.looks_above.items) (R.answers rt.now) }
+    {
+        self.looks.iter().all(|look| look.is_unchanged(rt))
+            && self.looks_above.iter().all(|look| look.is_unchanged(rt))
     }
 }
 
@@ -84,19 +77,24 @@ pub fn with_alternates<R: Directories>(
     rt: &R,
     objects: &ObjectDirectory,
 ) -> Result<ObjectDirectories, Error>
-    ensures { IfOk result (λ directories. IfKnown (λ at. with_alternates
-        (string_bytes objects.now.path) (map string_bytes objects.now.alternates.items) at
-        ≡ Some (directories_of directories)) (R.answers rt.now)) }
+    ensures directories { Finds directories_of result (with_alternates
+        (string_bytes objects.now.path) (map string_bytes objects.now.alternates.items))
+        (R.answers rt.now) }
+    ensures looks { IfOk result (λ found. IfKnown (λ at. looked_at (string_bytes objects.now.path)
+        (map string_bytes objects.now.alternates.items) at
+        ≡ Some (map (λ look. string_bytes look.path) found.looks.items)) (R.answers rt.now)) }
 {
     let real = existing_directory(rt, &objects.path)?;
     let mut walk = Walk {
         found: ObjectDirectories {
             paths: Vec::new(rt.alloc()),
-            states: Vec::new(rt.alloc()),
             skipped: Vec::new(rt.alloc()),
+            looks: Vec::new(rt.alloc()),
+            looks_above: Vec::new(rt.alloc()),
         },
         paths: BTreeSet::new(rt.alloc()),
         numbers: Vec::new(rt.alloc()),
+        above: String::new(rt.alloc()),
     };
     walk.walk_from(rt, real, &objects.alternates)?;
     let mut found = walk.found;
@@ -123,15 +121,15 @@ impl Walk {
         real: RealDirectory,
         given: &[String],
     ) -> Result<(), Error>
-        ensures { OnOk result (IfKnown (λ at. walk_from (directory_of real)
-            (map string_bytes given.now) (walk_of self.old) at ≡ Some (walk_of self.new))
-            (R.answers rt.now)) }
+        ensures { Finds (λ _. walk_of self.new) result (walk_from (directory_of real)
+            (map string_bytes given.now) (walk_of self.old)) (R.answers rt.now) }
     {
         let path = real.path.clone()?;
         self.push(real)?;
         self.visit_all(rt, given, LEVELS)?;
         let alternates = self.list_at(rt, &path)?;
-        self.visit_all(rt, &alternates, LEVELS)
+        self.visit_all(rt, &alternates, LEVELS)?;
+        Ok(())
     }
 
     // Adds a directory.
@@ -152,7 +150,8 @@ impl Walk {
 
     // Adds why a path is skipped. The error is returned if it is that memory ran out.
     fn skip(&mut self, why: Error) -> Result<(), Error>
-        ensures { OnOk result (walk_of self.new ≡ skip (walk_of self.old)) }
+        ensures skipped { OnOk result (walk_of self.new ≡ skip (walk_of self.old)) }
+        ensures err { IfErr result (λ error. is_memory error ≡ true) }
     {
         if let Error::Memory(error) = why {
             return Err(Error::Memory(error));
@@ -178,8 +177,8 @@ impl Walk {
         paths: &[String],
         levels: u8,
     ) -> Result<(), Error>
-        ensures { OnOk result (IfKnown (λ at. each (visit_below levels) (map string_bytes paths.now)
-            (walk_of self.old) at ≡ Some (walk_of self.new)) (R.answers rt.now)) }
+        ensures { Finds (λ _. walk_of self.new) result (each (visit_below levels)
+            (map string_bytes paths.now) (walk_of self.old)) (R.answers rt.now) }
     {
         for path in paths {
             let alternates = self.visit(rt, path, levels)?;
@@ -198,25 +197,61 @@ impl Walk {
         path: &str,
         levels: u8,
     ) -> Result<Vec<String>, Error>
-        ensures { IfOk result (λ paths. IfKnown (λ at. visit levels path.now (walk_of self.old) at
-            ≡ Some (walk_of self.new, map string_bytes paths.items)) (R.answers rt.now)) }
+        ensures { Finds (λ paths. (walk_of self.new, map string_bytes paths.items)) result
+            (visit levels path.now (walk_of self.old)) (R.answers rt.now) }
     {
-        match real_directory(rt, path) {
-            Ok(real) if self.has(&real) => Ok(Vec::new(rt.alloc())),
-            Ok(_) if levels == 0 => {
-                self.skip(Error::text(rt.alloc(), path, TextFault::TooDeep))?;
-                Ok(Vec::new(rt.alloc()))
-            }
-            Ok(real) => {
-                let alternates = self.list_at(rt, &real.path)?;
-                self.push(real)?;
-                Ok(alternates)
-            }
+        let real = match real_directory(rt, path) {
+            Ok(real) => real,
             Err(error) => {
                 self.skip_unusable(rt, path, error)?;
-                Ok(Vec::new(rt.alloc()))
+                return Ok(Vec::new(rt.alloc()));
             }
+        };
+        self.note(rt, path, Seen::Directory(real.seen))?;
+        if self.has(&real) {
+            return Ok(Vec::new(rt.alloc()));
         }
+        if levels == 0 {
+            self.skip(Error::text(rt.alloc(), path, TextFault::TooDeep))?;
+            return Ok(Vec::new(rt.alloc()));
+        }
+        let alternates = self.list_at(rt, &real.path)?;
+        self.push(real)?;
+        Ok(alternates)
+    }
+
+    // Notes what was seen at a path.
+    fn note(&mut self, rt: &impl AllocGlobal, path: &str, seen: Seen) -> Result<(), AllocError>
+        ensures looked { OnOk result (walk_of self.new ≡ look_at path.now (walk_of self.old)) }
+        ensures noted { OnOk result (noted self.new ≡ noted self.old ++ (path.now, seen) ∷ []) }
+    {
+        let path = String::from_str(rt.alloc(), path)?;
+        self.found.looks.push(Look { path, seen })?;
+        Ok(())
+    }
+
+    // Notes the state of what a path leads to. If that is nothing, the state of the directory above
+    // is noted, too, unless it was the last time: what comes and goes again leaves another one.
+    fn note_state<R: Directories>(
+        &mut self,
+        rt: &R,
+        path: &str,
+        state: Option<FileState>,
+    ) -> Result<(), AllocError>
+        ensures looked { OnOk result (walk_of self.new ≡ look_at path.now (walk_of self.old)) }
+        ensures noted { OnOk result (noted self.new
+            ≡ noted self.old ++ (path.now, Seen.State state) ∷ []) }
+    {
+        self.note(rt, path, Seen::State(state))?;
+        if state.is_none()
+            && let Some((above, state)) = first_above(rt, path, &self.above)
+        {
+            let path = String::from_str(rt.alloc(), above)?;
+            let seen = Seen::State(Some(state));
+            self.found.looks_above.push(Look { path, seen })?;
+            self.above = String::from_str(rt.alloc(), above)?;
+        }
+        Ok(())
     }
 
     // Skips an alternate that is not a directory or cannot be read. The error is that memory runs
@@ -227,8 +262,10 @@ impl Walk {
         path: &str,
         error: io::Error,
     ) -> Result<(), Error>
-        ensures skipped { OnOk result (walk_of self.new ≡ skip (walk_of self.old)) }
+        ensures skipped { OnOk result (walk_of self.new
+            ≡ skip_unusable path.now (walk_of self.old)) }
         ensures memory { OnOk result (error_kind error ≢ ErrorKind.OutOfMemory) }
+        ensures err { IfErr result (λ error. is_memory error ≡ true) }
     {
         if error.kind() == io::ErrorKind::OutOfMemory {
             return Err(Error::Memory(AllocError));
@@ -236,23 +273,18 @@ impl Walk {
         if path.is_empty() {
             return self.skip(Error::text(rt.alloc(), ALTERNATES, TextFault::PathWithNul));
         }
-        let state = if error.kind() == io::ErrorKind::NotFound {
-            FileState::of_missing(rt, path)
-        } else {
-            FileState::of(rt, path)
-        };
-        self.skip(unusable(rt, path, error))?;
-        if let Ok(state) = state {
-            self.found.states.push(state)?;
+        match error.kind() {
+            io::ErrorKind::NotFound => self.note_state(rt, path, None)?,
+            _ => self.note(rt, path, Seen::Unusable)?,
         }
-        Ok(())
+        self.skip(unusable(rt, path, error))
     }
 
     // Reads the paths in the list of alternates of a directory. Those that are not UTF-8 are
     // skipped.
     fn list_at<R: Directories>(&mut self, rt: &R, directory: &str) -> Result<Vec<String>, Error>
-        ensures { IfOk result (λ paths. IfKnown (λ at. list_at directory.now (walk_of self.old) at
-            ≡ Some (walk_of self.new, map string_bytes paths.items)) (R.answers rt.now)) }
+        ensures { Finds (λ paths. (walk_of self.new, map string_bytes paths.items)) result
+            (list_at directory.now (walk_of self.old)) (R.answers rt.now) }
     {
         let list = list_path(rt, directory)?;
         let text = self.text_at(rt, &list)?;
@@ -267,9 +299,10 @@ impl Walk {
         directory: &str,
         named: &[Vec<u8>],
     ) -> Result<Vec<String>, Error>
-        ensures { IfOk result (λ paths. (walk_of self.new, map string_bytes paths.items)
+        ensures paths { IfOk result (λ paths. (walk_of self.new, map string_bytes paths.items)
             ≡ with_paths directory.now (map (λ path. path.items) named.now)
             (walk_of self.old, [])) }
+        ensures err { IfErr result (λ error. is_memory error ≡ true) }
     {
         let mut paths = Vec::new(rt.alloc());
         for path in named {
@@ -286,9 +319,10 @@ impl Walk {
         path: &[u8],
         paths: &mut Vec<String>,
     ) -> Result<(), Error>
-        ensures { OnOk result ((walk_of self.new, map string_bytes paths.new.items)
+        ensures path { OnOk result ((walk_of self.new, map string_bytes paths.new.items)
             ≡ with_path directory.now path.now
             (walk_of self.old, map string_bytes paths.old.items)) }
+        ensures err { IfErr result (λ error. is_memory error ≡ true) }
     {
         if path.is_empty() {
             return Ok(());
@@ -302,19 +336,18 @@ impl Walk {
 
     // Reads the text of a list of alternates, which is empty if there is no list.
     fn text_at<R: Directories>(&mut self, rt: &R, list: &str) -> Result<Vec<u8>, Error>
-        ensures same { walk_of self.new ≡ walk_of self.old }
-        ensures text { IfOk result (λ text. IfKnown (λ at. text_at list.now at
-            ≡ Some text.items) (R.answers rt.now)) }
+        ensures looked { OnOk result (walk_of self.new ≡ look_at list.now (walk_of self.old)) }
+        ensures text { Finds (λ text. text.items) result (text_at list.now) (R.answers rt.now) }
     {
-        let found = FileState::if_there(rt, list);
-        let Some(state) = found.map_err(|error| Error::file(rt.alloc(), list, error))? else {
-            let missing = FileState::of_missing(rt, list);
-            let state = missing.map_err(|error| Error::file(rt.alloc(), list, error))?;
-            self.found.states.push(state)?;
-            return Ok(Vec::new(rt.alloc()));
+        let state = match FileState::if_there(rt, list) {
+            Ok(state) => state,
+            Err(error) => return Err(Error::file(rt.alloc(), list, error)),
         };
-        self.found.states.push(state)?;
-        match if_there(rt, list, rt.read(list))? {
+        self.note_state(rt, list, state)?;
+        if state.is_none() {
+            return Ok(Vec::new(rt.alloc()));
+        }
+        match read_if_there(rt, list)? {
             Some(text) => Ok(text),
             None => Ok(Vec::new(rt.alloc())),
         }

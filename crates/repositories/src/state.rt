@@ -1,8 +1,10 @@
 //! What directories and files are before they are read, to know whether they changed meanwhile.
 
-ghost use Rattle.std.specs.Prelude.{◌≡◌, ◌+◌, ◌*◌, ◌<◌, ◌==◌, ◌↔◌, IfOk, IsTrue, Some, not};
+ghost use Rattle.std.specs.Prelude.{◌≡◌, ◌≢◌, ◌+◌, ◌*◌, ◌<◌, ◌==◌, ◌↔◌, IfErr, IfOk, IsTrue, None, Some, not};
 ghost use Rattle.std.specs.Duration.{as_nanos};
 ghost use Rattle.std.specs.Fs.{metadata_len};
+ghost use Rattle.std.specs.IoError.{error_kind};
+ghost use Rattle.std.specs.declared.io.ErrorKind.TheVariants as errors;
 ghost use Rattle.repositories.specs.Answers.{IfKnown};
 ghost use Rattle.repositories.specs.States.{IsPast, IsSettled, from_zero};
 ghost use Rattle.repositories.specs.Walks.{IsStateOf, or_here, state_at};
@@ -62,7 +64,7 @@ impl FileState {
     }
 
     // Reads the state of a path that leads to nothing.
-    pub(crate) fn of_missing<R: Directories>(rt: &R, path: &str) -> io::Result<FileState>
+    fn of_missing<R: Directories>(rt: &R, path: &str) -> io::Result<FileState>
         ensures { IfOk result (λ state. 0 < state.missing) }
     {
         let mut missing = 1u64;
@@ -79,8 +81,10 @@ impl FileState {
     /// Reads the state of what a path leads to, or returns `None` if that is nothing. The error is
     /// any other one of the look at the path.
     pub fn if_there<R: Directories>(rt: &R, path: &str) -> io::Result<Option<FileState>>
-        ensures { IfOk result (λ state. IfKnown (λ at. state_at path.now at ≡ Some state)
+        ensures ok { IfOk result (λ state. IfKnown (λ at. state_at path.now at ≡ Some state)
             (R.answers rt.now)) }
+        ensures err { IfErr result (λ error. error_kind error ≢ errors.OutOfMemory
+            → IfKnown (λ at. state_at path.now at ≡ None) (R.answers rt.now)) }
     {
         match rt.look(path) {
             Err(error) if is_missing(&error) => Ok(None),
@@ -165,7 +169,7 @@ impl FileState {
 }
 
 // A path, or that of the current directory if it is empty.
-fn or_here(path: &str) -> &str
+pub(crate) fn or_here(path: &str) -> &str
     ensures { result.now ≡ or_here path.now }
 {
     match path {

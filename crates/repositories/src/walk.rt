@@ -16,6 +16,8 @@ pub(crate) struct Walk {
     pub(crate) paths: BTreeSet<String>,
     // The numbers of the directories whose absolute paths are not UTF-8.
     pub(crate) numbers: Vec<FileNumber>,
+    // The directory above what is missing whose state was noted last, or an empty path.
+    pub(crate) above: String,
     ghost same_paths: { (path : List ℕ) → contains_text paths path
         ≡ list_any (λ other. bytes_eq other path) (map string_bytes found.paths.items) },
 }

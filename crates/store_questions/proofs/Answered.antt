@@ -6,11 +6,11 @@ use Rattle.id_lookup.specs.Words.{Kind, KindDigits, ObjectId, first_byte_of, id_
 use Rattle.id_lookup.proofs.Beginnings.{first_byte_of-begins}
 use Rattle.id_lookup.proofs.Filters.{kept_passes}
 use Rattle.object_store.specs.Several.{AreLocated, IsAbbreviated, IsAbbreviatedAs, limited_to}
-use Rattle.object_store.specs.Stores.{AreIdsRead, AreMatches, IsNameIn, StoreView}
-use Rattle.object_store.specs.declared.parts.Abbreviation.{Abbreviation}
-use Rattle.object_store.specs.declared.parts.Abbreviation.TheVariants.{Ambiguous, Missing, Named}
-use Rattle.object_store.specs.declared.parts.LocatedId.{LocatedId}
-use Rattle.object_store.specs.declared.parts.NamedId.{NamedId}
+use Rattle.object_store.specs.Stores.{AreIdsRead, AreMatches, IsAbbreviationIn, StoreView}
+use Rattle.object_store.specs.declared.abbreviations.Abbreviation.{Abbreviation}
+use Rattle.object_store.specs.declared.abbreviations.Abbreviation.TheVariants.{Ambiguous, Missing, Unique}
+use Rattle.object_store.specs.declared.locations.LocatedId.{LocatedId}
+use Rattle.object_store.specs.declared.abbreviations.AbbreviatedId.{AbbreviatedId}
 use Rattle.repositories.specs.Answers.{Answers}
 use Rattle.repositories.specs.declared.finding.ObjectDirectory.{ObjectDirectory}
 use Rattle.directory_store.specs.Opened.{AreObjects, AreWithAlternates, HasAll, HaveCounts}
@@ -18,16 +18,16 @@ use Rattle.directory_store.specs.Stores.{IsListedBy}
 use Rattle.directory_store.specs.declared.error.Error.{Error}
 use Rattle.directory_store.specs.declared.loose.LooseIds.{LooseIds}
 use Rattle.directory_store.specs.declared.loose.LooseIds.TheVariants as loose_ids
-use Rattle.directory_store.proofs.AllBytes.{found_of_all, named_of_all}
-use Rattle.packtool_commands.specs.Stores.{AreNamedBelow, HasAnsweredEach, IsTextOf, abbreviation_text, found_text, id_line, limit_for, line_with, located_lines, no_answer, no_name, prefix_of, prefixes_of}
-use Rattle.packtool_commands.specs.declared.printing.Answers.{Answers as AnswersAsked}
+use Rattle.directory_store.proofs.AllBytes.{found_of_all, abbreviation_of_all}
+use Rattle.packtool_commands.specs.Stores.{AreAbbreviatedBelow, HasAnsweredEach, IsTextOf, abbreviation_text, found_text, id_line, limit_for, line_with, located_lines, no_answer, no_abbreviation, prefix_of, prefixes_of}
+use Rattle.packtool_commands.specs.declared.printing.Wanted.{Wanted}
 use Rattle.packtool_commands.specs.declared.printing.NoAnswer.{NoAnswer}
 use Rattle.packtool_commands.proofs.AnswerLemmas.{are_long}
 use Rattle.packtool_commands.proofs.EachLine.{answered_each, text_seen}
 use Rattle.store_questions.specs.Answers.{HasAnsweredLines, IsStatus}
 use Rattle.store_questions.specs.Written.{IsAnswerTo, by_first_byte}
 use Rattle.store_questions.specs.declared.request.Question.{Question}
-use Rattle.store_questions.specs.declared.request.Question.TheVariants.{Find, Locate, Names}
+use Rattle.store_questions.specs.declared.request.Question.TheVariants.{Abbreviate, Find, Locate}
 
 zip-map : {X Y : Type 0} (P Q : X → Y → Type 0) (C : X → Type 0) → ((x : X) (y : Y) → C x → P x y → Q x y) → (xs : List X) (ys : List Y) → All C xs → AllZip P xs ys → AllZip Q xs ys
 zip-map P Q C f [] [] can all = tt
@@ -69,97 +69,97 @@ module _ (at : Answers) (directories objects : List (List ℕ)) (which : LooseId
   abbrev id_of : LocatedId Global → List ℕ
   id_of located = id_digits located.id
 
-  located_are : (answers : AnswersAsked) (loose_paths : List ℕ → List (List ℕ)) (prefix : KindDigits) (ids : Vec (LocatedId Global) Global) → CanAsk prefix
-      → AreLocated (limit_for answers) view loose_paths prefix.digits ids.items → map id_of ids.items ≡ limited_to (limit_for answers) (matches prefix.digits objects)
-  located_are answers loose_paths prefix ids can located =
+  located_are : (wanted : Wanted) (loose_paths : List ℕ → List (List ℕ)) (prefix : KindDigits) (ids : Vec (LocatedId Global) Global) → CanAsk prefix
+      → AreLocated (limit_for wanted) view loose_paths prefix.digits ids.items → map id_of ids.items ≡ limited_to (limit_for wanted) (matches prefix.digits objects)
+  located_are wanted loose_paths prefix ids can located =
       let found = located.are_matches in
       let are_ids = found_of_all at which directories objects view has counted are prefix.digits found.read (map id_digits located.ids) can.1 can.0 found.ids_read found.index in
-      sym (map-map id_digits (λ (l : LocatedId Global). l.id) ids.items) ∙ ap (map id_digits) located.first ∙ map-limited (limit_for answers) located.ids
-      ∙ ap (limited_to (limit_for answers)) are_ids
+      sym (map-map id_digits (λ (l : LocatedId Global). l.id) ids.items) ∙ ap (map id_digits) located.first ∙ map-limited (limit_for wanted) located.ids
+      ∙ ap (limited_to (limit_for wanted)) are_ids
 
-  abbreviated : (least : ℕ) → 2 ≤ least → (prefix : KindDigits) (named : Abbreviation) → CanAsk prefix → IsAbbreviated least view prefix.digits named
-      → IsAbbreviatedAs least view.kind objects (matches prefix.digits objects) named
-  abbreviated least two prefix named can is =
+  abbreviation_is : (least : ℕ) → 2 ≤ least → (prefix : KindDigits) (abbreviated : Abbreviation) → CanAsk prefix → IsAbbreviated least view prefix.digits abbreviated
+      → IsAbbreviatedAs least view.kind objects (matches prefix.digits objects) abbreviated
+  abbreviation_is least two prefix abbreviated can is =
       let found : is.found ≡ matches prefix.digits objects =
       found_of_all at which directories objects view has counted are prefix.digits is.read is.found can.1 can.0 is.ids_read is.index in
-      by named is.name found
+      by abbreviated is.says found
     where
-      by : (named : Abbreviation) → IsAbbreviatedAs least view.kind is.read is.found named → is.found ≡ matches prefix.digits objects
-          → IsAbbreviatedAs least view.kind objects (matches prefix.digits objects) named
+      by : (abbreviated : Abbreviation) → IsAbbreviatedAs least view.kind is.read is.found abbreviated → is.found ≡ matches prefix.digits objects
+          → IsAbbreviatedAs least view.kind objects (matches prefix.digits objects) abbreviated
       by Missing none found = sym found ∙ none
       by Ambiguous more found = subst (λ (f : List (List ℕ)). 1 < length f) found more
-      by (Named named) (only, name, of_kind) found =
-          let id = id_digits named.id in
+      by (Unique abbreviated) (only, name, of_kind) found =
+          let id = id_digits abbreviated.id in
           let there : Contains is.found id = subst (λ (f : List (List ℕ)). Contains f id) (sym only) (Contains-get_or (id ∷ []) 0 [] (omega arith)) in
           let begins = kept_passes (λ x. starts_with nat_eq x prefix.digits) is.read id ((is.index.members id).0 there) in
           let same : first_byte_of prefix.digits ≡ first_byte_of id = sym (first_byte_of-begins id prefix.digits can.0 begins) in (
             sym found ∙ only,
-            named_of_all at which directories objects view has counted are is.read least id named.name.digits (subst (IsListedBy which) same can.1)
+            abbreviation_of_all at which directories objects view has counted are is.read least id abbreviated.abbreviation.digits (subst (IsListedBy which) same can.1)
                 (subst (λ byte. AreIdsRead view byte is.read) same is.ids_read) two name,
             of_kind,
           )
 
   -- what a question finds for lines is what the objects answer
-  pub lines_answered : (question : Question) (least : ℕ) (answers : AnswersAsked) (pack_path : ℕ → List ℕ) (loose_paths : List ℕ → List (List ℕ)) (lines : List (List ℕ))
+  pub lines_answered : (question : Question) (least : ℕ) (wanted : Wanted) (pack_path : ℕ → List ℕ) (loose_paths : List ℕ → List (List ℕ)) (lines : List (List ℕ))
       (why : Option NoAnswer) (old new : Option (List ℕ)) → 2 ≤ least → All (λ (prefix : KindDigits). IsListedBy which (first_byte_of prefix.digits)) (prefixes_of view.kind lines)
-      → HasAnsweredLines Global question answers least pack_path loose_paths view lines why old new → HasAnsweredEach (IsAnswerTo question least answers view.kind objects) lines old new
-  lines_answered question least answers pack_path loose_paths lines why old new two listed is = by question is
+      → HasAnsweredLines Global question wanted least pack_path loose_paths view lines why old new → HasAnsweredEach (IsAnswerTo question least wanted view.kind objects) lines old new
+  lines_answered question least wanted pack_path loose_paths lines why old new two listed is = by question is
     where
       can : All CanAsk (prefixes_of view.kind lines)
       can = λ k d low. ((are_long view.kind lines k d low).0, listed k d low)
 
-      by : (question : Question) → HasAnsweredLines Global question answers least pack_path loose_paths view lines why old new
-          → HasAnsweredEach (IsAnswerTo question least answers view.kind objects) lines old new
+      by : (question : Question) → HasAnsweredLines Global question wanted least pack_path loose_paths view lines why old new
+          → HasAnsweredEach (IsAnswerTo question least wanted view.kind objects) lines old new
       by Find found =
           let finds : List ℕ → Vec ObjectId Global → Type 0 = λ digits ids. map id_digits ids.items ≡ matches digits objects in
-          let text : List ℕ → Vec ObjectId Global → List ℕ = λ line ids. found_text (λ l (id : ObjectId). id_line l (id_digits id)) answers line ids.items in
-          each-is (IsTextOf finds text view.kind) (IsAnswerTo Find least answers view.kind objects)
-          (λ line written. text-is finds (λ digits (ids : List (List ℕ)). ids ≡ matches digits objects) text (λ l ids. found_text id_line answers l ids) (λ ids. map id_digits ids.items)
-          (λ digits ids same. same) (λ l ids. text_seen id_line id_digits answers l ids.items) line written (prefix_of view.kind line)) lines old new
-          (answered_each finds text view.kind (λ ids. no_answer answers ids.items) lines why old new (record {
+          let text : List ℕ → Vec ObjectId Global → List ℕ = λ line ids. found_text (λ l (id : ObjectId). id_line l (id_digits id)) wanted line ids.items in
+          each-is (IsTextOf finds text view.kind) (IsAnswerTo Find least wanted view.kind objects)
+          (λ line written. text-is finds (λ digits (ids : List (List ℕ)). ids ≡ matches digits objects) text (λ l ids. found_text id_line wanted l ids) (λ ids. map id_digits ids.items)
+          (λ digits ids same. same) (λ l ids. text_seen id_line id_digits wanted l ids.items) line written (prefix_of view.kind line)) lines old new
+          (answered_each finds text view.kind (λ ids. no_answer wanted ids.items) lines why old new (record {
             results = found.results;
             are_found = zip-map _ (λ (prefix : KindDigits) (ids : Vec ObjectId Global). finds prefix.digits ids) CanAsk matches_are (prefixes_of view.kind lines) found.results can found.are_found;
             first = found.first;
             written = found.written;
           }))
       by Locate found =
-          let finds : List ℕ → Vec (LocatedId Global) Global → Type 0 = λ digits ids. map id_of ids.items ≡ limited_to (limit_for answers) (matches digits objects) in
-          let text : List ℕ → Vec (LocatedId Global) Global → List ℕ = λ line ids. found_text (located_lines pack_path) answers line ids.items in
-          each-is (IsTextOf finds text view.kind) (IsAnswerTo Locate least answers view.kind objects)
+          let finds : List ℕ → Vec (LocatedId Global) Global → Type 0 = λ digits ids. map id_of ids.items ≡ limited_to (limit_for wanted) (matches digits objects) in
+          let text : List ℕ → Vec (LocatedId Global) Global → List ℕ = λ line ids. found_text (located_lines pack_path) wanted line ids.items in
+          each-is (IsTextOf finds text view.kind) (IsAnswerTo Locate least wanted view.kind objects)
           (λ line written is. (
             pack_path,
-            text-is finds (λ digits (ids : List (LocatedId Global)). map id_of ids ≡ limited_to (limit_for answers) (matches digits objects)) text
-                (λ l ids. found_text (located_lines pack_path) answers l ids) (λ ids. ids.items) (λ digits ids same. same) (λ l ids. refl) line written (prefix_of view.kind line) is,
+            text-is finds (λ digits (ids : List (LocatedId Global)). map id_of ids ≡ limited_to (limit_for wanted) (matches digits objects)) text
+                (λ l ids. found_text (located_lines pack_path) wanted l ids) (λ ids. ids.items) (λ digits ids same. same) (λ l ids. refl) line written (prefix_of view.kind line) is,
           )) lines old new
-          (answered_each finds text view.kind (λ ids. no_answer answers ids.items) lines why old new (record {
+          (answered_each finds text view.kind (λ ids. no_answer wanted ids.items) lines why old new (record {
             results = found.results;
-            are_found = zip-map _ (λ (prefix : KindDigits) (ids : Vec (LocatedId Global) Global). finds prefix.digits ids) CanAsk (located_are answers loose_paths) (prefixes_of view.kind lines) found.results can found.are_found;
+            are_found = zip-map _ (λ (prefix : KindDigits) (ids : Vec (LocatedId Global) Global). finds prefix.digits ids) CanAsk (located_are wanted loose_paths) (prefixes_of view.kind lines) found.results can found.are_found;
             first = found.first;
             written = found.written;
           }))
-      by Names found =
-          answered_each (λ digits named. IsAbbreviatedAs least view.kind objects (matches digits objects) named) abbreviation_text view.kind no_name lines why old new (record {
+      by Abbreviate found =
+          answered_each (λ digits abbreviated. IsAbbreviatedAs least view.kind objects (matches digits objects) abbreviated) abbreviation_text view.kind no_abbreviation lines why old new (record {
             results = found.results;
-            are_found = zip-map _ (λ (prefix : KindDigits) named. IsAbbreviatedAs least view.kind objects (matches prefix.digits objects) named) CanAsk (abbreviated least two)
+            are_found = zip-map _ (λ (prefix : KindDigits) abbreviated. IsAbbreviatedAs least view.kind objects (matches prefix.digits objects) abbreviated) CanAsk (abbreviation_is least two)
                 (prefixes_of view.kind lines) found.results can found.are_found;
             first = found.first;
             written = found.written;
           })
 
--- the names of all objects, of each first byte in one of the stores that were seen
+-- the abbreviations of all objects, of each first byte in one of the stores that were seen
 module _ (at : Answers) (directories objects : List (List ℕ)) (kind : Kind) (counted : HaveCounts at kind directories) (are : AreObjects at kind loose_ids.All directories objects)
     (Sees : StoreView → Type 0) (all : (view : StoreView) → Sees view → (view.kind ≡ kind) × HasAll at loose_ids.All directories view) (least : ℕ) (two : 2 ≤ least) where
-  abbrev IsNamed : NamedId → Type 0
-  IsNamed n = IsNameIn least objects (id_digits n.id) n.name.digits
+  abbrev IsAbbreviatedOne : AbbreviatedId → Type 0
+  IsAbbreviatedOne n = IsAbbreviationIn least objects (id_digits n.id) n.abbreviation.digits
 
-  abbrev digits_of : NamedId → List ℕ
+  abbrev digits_of : AbbreviatedId → List ℕ
   digits_of n = id_digits n.id
 
-  pub all_named : (n : ℕ) (named : List NamedId) → AreNamedBelow n least Sees named → (map digits_of named ≡ by_first_byte n objects) × All IsNamed named
-  unfolding AreNamedBelow by_first_byte
-  all_named zero named none = (ap (map digits_of) none, subst (All IsNamed) (sym none) (All-nil IsNamed))
-  all_named (suc n) named (before, part, view, below, sees, is, both) =
-      let rest = all_named n before below in
+  pub all_abbreviated : (n : ℕ) (abbreviated : List AbbreviatedId) → AreAbbreviatedBelow n least Sees abbreviated → (map digits_of abbreviated ≡ by_first_byte n objects) × All IsAbbreviatedOne abbreviated
+  unfolding AreAbbreviatedBelow by_first_byte
+  all_abbreviated zero abbreviated none = (ap (map digits_of) none, subst (All IsAbbreviatedOne) (sym none) (All-nil IsAbbreviatedOne))
+  all_abbreviated (suc n) abbreviated (before, part, view, below, sees, is, both) =
+      let rest = all_abbreviated n before below in
       let seen = all view sees in
       let prefix : List ℕ = n / 16 ∷ n % 16 ∷ [] in
       let byte : n ≡ first_byte_of prefix = omega arith in
@@ -169,15 +169,15 @@ module _ (at : Answers) (directories objects : List (List ℕ)) (kind : Kind) (c
       let ids : map digits_of part ≡ matches prefix objects =
       found_of_all at loose_ids.All directories objects view seen.1 counted' are' prefix is.read (map digits_of part) (listed _) (omega arith)
       (subst (λ b. AreIdsRead view b is.read) byte is.ids_read) is.index in
-      let names : All IsNamed part = λ k d low.
+      let abbreviations : All IsAbbreviatedOne part = λ k d low.
       let id = digits_of (get_or part k d) in
       let there : Contains (map digits_of part) id =
       subst (Contains (map digits_of part)) (get_or-map digits_of part k d [] low) (Contains-get_or (map digits_of part) k [] (omega (arith, low, length-map part digits_of))) in
       let begins = kept_passes (λ x. starts_with nat_eq x prefix) is.read id ((is.index.members id).0 there) in
       let same : n ≡ first_byte_of id = byte ∙ sym (first_byte_of-begins id prefix (omega arith) begins) in
-      named_of_all at loose_ids.All directories objects view seen.1 counted' are' is.read least id _ (listed _) (subst (λ b. AreIdsRead view b is.read) same is.ids_read) two (is.names k d low) in (
+      abbreviation_of_all at loose_ids.All directories objects view seen.1 counted' are' is.read least id _ (listed _) (subst (λ b. AreIdsRead view b is.read) same is.ids_read) two (is.abbreviations k d low) in (
         ap (map digits_of) both ∙ map-append digits_of before part ∙ ap₂ (λ (front back : List (List ℕ)). front ++ back) rest.0 ids,
-        subst (All IsNamed) (sym both) (All-append IsNamed before part rest.1 names),
+        subst (All IsAbbreviatedOne) (sym both) (All-append IsAbbreviatedOne before part rest.1 abbreviations),
       )
 
 -- a status of 0 or 1 says that nothing was skipped

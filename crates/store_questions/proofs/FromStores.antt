@@ -12,16 +12,16 @@ use Rattle.directory_store.specs.declared.error.Error.{Error}
 use Rattle.directory_store.specs.declared.loose.LooseIds.{LooseIds}
 use Rattle.directory_store.specs.declared.loose.LooseIds.TheVariants as loose_ids
 use Rattle.directory_store.proofs.Wholes.{moved}
-use Rattle.packtool_commands.specs.Stores.{HasAnsweredEach, HasNamedBelow}
-use Rattle.packtool_commands.specs.declared.printing.Answers.{Answers as AnswersAsked}
+use Rattle.packtool_commands.specs.Stores.{HasAnsweredEach, HasAbbreviatedBelow}
+use Rattle.packtool_commands.specs.declared.printing.Wanted.{Wanted}
 use Rattle.packtool_commands.specs.declared.printing.NoAnswer.{NoAnswer}
 use Rattle.streams.specs.Streams.{lines_of}
 use Rattle.store_questions.specs.Answers.{HasAsked, IsAnswered, IsStatus, IsStoreOf}
-use Rattle.store_questions.specs.Written.{HasNamedAll, HasWritten, IsAnswerTo}
+use Rattle.store_questions.specs.Written.{HasAbbreviatedAll, HasWritten, IsAnswerTo}
 use Rattle.store_questions.specs.declared.request.Ask.{Ask}
 use Rattle.store_questions.specs.declared.request.Ask.TheVariants as asks
 use Rattle.store_questions.specs.declared.request.Question.{Question}
-use Rattle.store_questions.proofs.Answered.{all_named, lines_answered, none_skipped, same_directories}
+use Rattle.store_questions.proofs.Answered.{all_abbreviated, lines_answered, none_skipped, same_directories}
 use Rattle.store_questions.proofs.Parts.{chunks-written}
 
 -- what follows of what a call returned
@@ -37,46 +37,46 @@ module _ (at : Answers) (known : Option Answers) (is : known ≡ Some at) (direc
     (alternates : AreWithAlternates at directory directories) (counted : HaveCounts at directory.kind directories)
     (are : AreObjects at directory.kind loose_ids.All directories objects) (least : ℕ) (two : 2 ≤ least) where
   -- what a store was asked for lines
-  pub asked_written : (question : Question) (answers : AnswersAsked) (which : LooseIds) (pack_path : ℕ → List ℕ) (loose_paths : List ℕ → List (List ℕ)) (view : StoreView)
+  pub asked_written : (question : Question) (wanted : Wanted) (which : LooseIds) (pack_path : ℕ → List ℕ) (loose_paths : List ℕ → List (List ℕ)) (view : StoreView)
       (skipped : List Error) (lines : List (List ℕ)) (why : Option NoAnswer) (status : ℕ) (old new : Option (List ℕ)) → status ≤ 1
-      → HasAsked Global question least answers directory known which pack_path loose_paths view skipped lines why status old new
-      → HasAnsweredEach (IsAnswerTo question least answers directory.kind objects) lines old new
-  asked_written question answers which pack_path loose_paths view skipped lines why status old new low asked =
+      → HasAsked Global question least wanted directory known which pack_path loose_paths view skipped lines why status old new
+      → HasAnsweredEach (IsAnswerTo question least wanted directory.kind objects) lines old new
+  asked_written question wanted which pack_path loose_paths view skipped lines why status old new low asked =
       let has = asked.objects (none_skipped skipped _ status asked.ended low) at is in
       let all : HasAll at which directories view = subst (λ (d : List (List ℕ)). HasAll at which d view) (same_directories at directory has.0 directories has.1 alternates) has.2 in
       let counted' = subst (λ k. HaveCounts at k directories) (sym asked.kind) counted in
       let are' = subst (λ k. AreObjects at k loose_ids.All directories objects) (sym asked.kind) are in
-      subst (λ k. HasAnsweredEach (IsAnswerTo question least answers k objects) lines old new) asked.kind
-      (lines_answered at directories objects which view all counted' are' question least answers pack_path loose_paths lines why old new two asked.listed asked.answered)
+      subst (λ k. HasAnsweredEach (IsAnswerTo question least wanted k objects) lines old new) asked.kind
+      (lines_answered at directories objects which view all counted' are' question least wanted pack_path loose_paths lines why old new two asked.listed asked.answered)
 
   -- and for all ids
   pub all_written : (own : ObjectDirectory) (answers : Option Answers) (which : LooseIds) (skipped : List Error) (any : Bool) (status : ℕ) (Sees : StoreView → Type 0)
       (old new : Option (List ℕ)) → status ≤ 1 → IsStatus skipped any status → IsStoreOf directory known own answers → which ≡ loose_ids.All
-      → HasNamedBelow 256 least Sees any old new
+      → HasAbbreviatedBelow 256 least Sees any old new
       → ((view : StoreView) → Sees view → (view.kind ≡ own.kind) × (skipped ≡ [] → IfKnown (λ at. HasAllOf at which own view) answers))
-      → HasNamedAll least objects old new
+      → HasAbbreviatedAll least objects old new
   all_written own answers which skipped any status Sees old new low ended of listed has sees =
       let none = none_skipped skipped any status ended low in
       let all : (view : StoreView) → Sees view → (view.kind ≡ directory.kind) × HasAll at loose_ids.All directories view = λ view saw.
       let seen = sees view saw in
       let here = moved at which loose_ids.All own directory view listed of.1 (seen.1 none at (of.2 ∙ is)) in
       (seen.0 ∙ of.0, subst (λ (d : List (List ℕ)). HasAll at loose_ids.All d view) (same_directories at directory here.0 directories here.1 alternates) here.2) in
-      let named = all_named at directories objects directory.kind counted are Sees all least two 256 has.named has.are_named in
-      record { named = has.named; all = named.0; names = named.1; written = has.written }
+      let abbreviated = all_abbreviated at directories objects directory.kind counted are Sees all least two 256 has.abbreviated has.are_abbreviated in
+      record { abbreviated = has.abbreviated; all = abbreviated.0; abbreviations = abbreviated.1; written = has.written }
 
 -- what was asked about, whatever it was
 pub has_written : {S : Type 0} (WroteAll : S → ℕ → Option (List ℕ) → Option (List ℕ) → Type 0)
-    (Is : AnswersAsked → S → List ℕ → ℕ × Option NoAnswer → Option (List ℕ) → Option (List ℕ) → Type 0) (question : Question) (least : ℕ) (kind : Kind) (objects : List (List ℕ))
+    (Is : Wanted → S → List ℕ → ℕ × Option NoAnswer → Option (List ℕ) → Option (List ℕ) → Type 0) (question : Question) (least : ℕ) (kind : Kind) (objects : List (List ℕ))
     (known : Option (List ℕ)) (asker : S) (ask : Ask) (status : ℕ) (old new : Option (List ℕ)) → status ≤ 1 → IsAnswered WroteAll Is known asker ask status old new
-    → ((asker : S) (status : ℕ) (old new : Option (List ℕ)) → status ≤ 1 → WroteAll asker status old new → HasNamedAll least objects old new)
-    → ((answers : AnswersAsked) (asker : S) (part : List ℕ) (own : ℕ) (why : Option NoAnswer) (before after : Option (List ℕ)) → own ≤ 1 → Is answers asker part (own, why) before after
-    → HasAnsweredEach (IsAnswerTo question least answers kind objects) (lines_of part) before after)
+    → ((asker : S) (status : ℕ) (old new : Option (List ℕ)) → status ≤ 1 → WroteAll asker status old new → HasAbbreviatedAll least objects old new)
+    → ((wanted : Wanted) (asker : S) (part : List ℕ) (own : ℕ) (why : Option NoAnswer) (before after : Option (List ℕ)) → own ≤ 1 → Is wanted asker part (own, why) before after
+    → HasAnsweredEach (IsAnswerTo question least wanted kind objects) (lines_of part) before after)
     → HasWritten question least kind objects known ask old new
 has_written WroteAll Is question least kind objects known asker asks.All status old new low is all each = all asker status old new low is
-has_written WroteAll Is question least kind objects known asker (asks.Prefix text answers) status old new low (why, is) all each =
-    each answers asker text.now status why old new low is
-has_written WroteAll Is question least kind objects known asker (asks.Lines answers) status old new low (text, read, n, parts) all each =
-    (text, read, chunks-written (IsAnswerTo question least answers kind objects) (Is answers) (each answers) n asker text status old new low parts)
+has_written WroteAll Is question least kind objects known asker (asks.Prefix text wanted) status old new low (why, is) all each =
+    each wanted asker text.now status why old new low is
+has_written WroteAll Is question least kind objects known asker (asks.Lines wanted) status old new low (text, read, n, parts) all each =
+    (text, read, chunks-written (IsAnswerTo question least wanted kind objects) (Is wanted) (each wanted) n asker text status old new low parts)
 
 -- and what is the same as what was asked
 pub same_asked : (question question' : Question) (least least' : ℕ) (directory directory' : ObjectDirectory) (objects : List (List ℕ)) (known : Option (List ℕ)) (ask : Ask)

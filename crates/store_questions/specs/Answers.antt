@@ -7,9 +7,9 @@ use Rattle.store_questions.specs.WholeLines.{AreWhole, made_whole}
 use Rattle.store_questions.specs.declared.request.Ask.{Ask}
 use Rattle.store_questions.specs.declared.request.Ask.TheVariants as asks
 use Rattle.store_questions.specs.declared.request.Question.{Question}
-use Rattle.store_questions.specs.declared.request.Question.TheVariants.{Find, Locate, Names}
-use Rattle.packtool_commands.specs.Stores.{HasAnsweredMatches, HasLocatedEach, HasNamedEach, prefixes_of}
-use Rattle.packtool_commands.specs.declared.printing.Answers.{Answers as AnswersAsked}
+use Rattle.store_questions.specs.declared.request.Question.TheVariants.{Abbreviate, Find, Locate}
+use Rattle.packtool_commands.specs.Stores.{HasAnsweredMatches, HasLocatedEach, HasAbbreviatedEach, prefixes_of}
+use Rattle.packtool_commands.specs.declared.printing.Wanted.{Wanted}
 use Rattle.repositories.specs.Answers.{Answers, IfKnown}
 use Rattle.repositories.specs.declared.finding.ObjectDirectory.{ObjectDirectory}
 use Rattle.directory_store.specs.Opened.{HasAllOf, place_of}
@@ -23,19 +23,19 @@ abbrev pub IsStatus : List Error → Bool → ℕ → Type 0
 IsStatus skipped any status = (skipped ≡ [] → status ≡ (if any then 0 else 1)) × (skipped ≢ [] → status ≡ 2)
 
 -- what a question finds for lines was written, and `why` is why the first line that has no answer has none; A is the type of the allocator of what was found
-abbrev pub HasAnsweredLines : (A : Type 0) → Question → AnswersAsked → ℕ → (ℕ → List ℕ) → (List ℕ → List (List ℕ)) → StoreView → List (List ℕ)
+abbrev pub HasAnsweredLines : (A : Type 0) → Question → Wanted → ℕ → (ℕ → List ℕ) → (List ℕ → List (List ℕ)) → StoreView → List (List ℕ)
     → Option NoAnswer → Option (List ℕ) → Option (List ℕ) → Type 0
-HasAnsweredLines A Find answers least pack_path loose_paths view lines why old new = HasAnsweredMatches A answers view lines why old new
-HasAnsweredLines A Locate answers least pack_path loose_paths view lines why old new = HasLocatedEach A answers pack_path loose_paths view lines why old new
-HasAnsweredLines A Names answers least pack_path loose_paths view lines why old new = HasNamedEach least view lines why old new
+HasAnsweredLines A Find wanted least pack_path loose_paths view lines why old new = HasAnsweredMatches A wanted view lines why old new
+HasAnsweredLines A Locate wanted least pack_path loose_paths view lines why old new = HasLocatedEach A wanted pack_path loose_paths view lines why old new
+HasAnsweredLines A Abbreviate wanted least pack_path loose_paths view lines why old new = HasAbbreviatedEach least view lines why old new
 
 -- a store of an object directory was asked for lines and answered with a status. It has all objects that directories and files answer, unless something is
 -- skipped, and lists the loose objects that the lines may begin
-pub record HasAsked (A : Type 0) (question : Question) (least : ℕ) (answers : AnswersAsked) (directory : ObjectDirectory) (known : Option Answers) (which : LooseIds)
+pub record HasAsked (A : Type 0) (question : Question) (least : ℕ) (wanted : Wanted) (directory : ObjectDirectory) (known : Option Answers) (which : LooseIds)
     (pack_path : ℕ → List ℕ) (loose_paths : List ℕ → List (List ℕ)) (view : StoreView) (skipped : List Error) (lines : List (List ℕ)) (why : Option NoAnswer) (status : ℕ)
     (old new : Option (List ℕ)) : Type 0 where
   pub ended : IsStatus skipped (is_none why) status
-  pub answered : HasAnsweredLines A question answers least pack_path loose_paths view lines why old new
+  pub answered : HasAnsweredLines A question wanted least pack_path loose_paths view lines why old new
   pub kind : view.kind ≡ directory.kind
   pub listed : All (λ (prefix : KindDigits). IsListedBy which (first_byte_of prefix.digits)) (prefixes_of view.kind lines)
   pub objects : skipped ≡ [] → IfKnown (λ at. HasAllOf at which directory view) known
@@ -59,13 +59,13 @@ IsChunkAnswered IsAnswer asker chunk status old new = (n : ℕ) × (middle : Opt
 
 -- what was asked about was answered: all ids; a prefix; or each line of an input, of which it may be known what it has left
 abbrev pub IsAnswered : {S : Type 0} → (S → ℕ → Option (List ℕ) → Option (List ℕ) → Type 0)
-    → (AnswersAsked → S → List ℕ → ℕ × Option NoAnswer → Option (List ℕ) → Option (List ℕ) → Type 0)
+    → (Wanted → S → List ℕ → ℕ × Option NoAnswer → Option (List ℕ) → Option (List ℕ) → Type 0)
     → Option (List ℕ) → S → Ask → ℕ → Option (List ℕ) → Option (List ℕ) → Type 0
 IsAnswered HasAll IsAnswer known asker asks.All status old new = HasAll asker status old new
-IsAnswered HasAll IsAnswer known asker (asks.Prefix text answers) status old new = (why : Option NoAnswer) × IsAnswer answers asker text.now (status, why) old new
-IsAnswered HasAll IsAnswer known asker (asks.Lines answers) status old new =
+IsAnswered HasAll IsAnswer known asker (asks.Prefix text wanted) status old new = (why : Option NoAnswer) × IsAnswer wanted asker text.now (status, why) old new
+IsAnswered HasAll IsAnswer known asker (asks.Lines wanted) status old new =
     (text : List ℕ) × IfSome known (λ all. text ≡ made_whole all) × (n : ℕ)
-    × HasAnsweredParts (λ asker chunk own before after. IsChunkAnswered (IsAnswer answers) asker chunk own before after) n asker text status old new
+    × HasAnsweredParts (λ asker chunk own before after. IsChunkAnswered (IsAnswer wanted) asker chunk own before after) n asker text status old new
 
 -- the prefixes whose loose objects are checked before a question is answered: all of them for `locate`, and none otherwise
 abbrev pub checked_of : {P : Type 0} → Question → List P → List P

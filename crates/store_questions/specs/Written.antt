@@ -4,34 +4,34 @@ use Rattle.std.specs.Global.{Global}
 use Rattle.std.specs.Io.KnownBytes.{Appends}
 use Rattle.id_lookup.specs.Words.{Kind, id_digits, matches}
 use Rattle.object_store.specs.Several.{IsAbbreviatedAs, limited_to}
-use Rattle.object_store.specs.Stores.{IsNameIn}
-use Rattle.object_store.specs.declared.parts.Abbreviation.{Abbreviation}
-use Rattle.object_store.specs.declared.parts.LocatedId.{LocatedId}
-use Rattle.object_store.specs.declared.parts.NamedId.{NamedId}
-use Rattle.packtool_commands.specs.Stores.{HasAnsweredEach, IsTextOf, abbreviation_text, found_text, id_line, limit_for, located_lines, name_line}
+use Rattle.object_store.specs.Stores.{IsAbbreviationIn}
+use Rattle.object_store.specs.declared.abbreviations.Abbreviation.{Abbreviation}
+use Rattle.object_store.specs.declared.locations.LocatedId.{LocatedId}
+use Rattle.object_store.specs.declared.abbreviations.AbbreviatedId.{AbbreviatedId}
+use Rattle.packtool_commands.specs.Stores.{HasAnsweredEach, IsTextOf, abbreviation_text, found_text, id_line, limit_for, located_lines, abbreviated_line}
 use Rattle.repositories.specs.Answers.{Answers, IfKnown}
 use Rattle.repositories.specs.declared.finding.ObjectDirectory.{ObjectDirectory}
 use Rattle.directory_store.specs.Opened.{AreObjects, AreWithAlternates, HaveCounts}
 use Rattle.directory_store.specs.declared.loose.LooseIds.TheVariants as loose_ids
-use Rattle.packtool_commands.specs.declared.printing.Answers.{Answers as AnswersAsked}
+use Rattle.packtool_commands.specs.declared.printing.Wanted.{Wanted}
 use Rattle.streams.specs.Streams.{lines_of}
 use Rattle.store_questions.specs.WholeLines.{made_whole}
 use Rattle.store_questions.specs.declared.request.Ask.{Ask}
 use Rattle.store_questions.specs.declared.request.Ask.TheVariants as asks
 use Rattle.store_questions.specs.declared.request.Question.{Question}
-use Rattle.store_questions.specs.declared.request.Question.TheVariants.{Find, Locate, Names}
+use Rattle.store_questions.specs.declared.request.Question.TheVariants.{Abbreviate, Find, Locate}
 
 -- a text answers a line: for `find` it has the objects that begin with the prefix, for `locate` it has locations of each of them, or of the first two if one is
--- asked for, and for `abbreviate` it has the name of the only one
-abbrev pub IsAnswerTo : Question → ℕ → AnswersAsked → Kind → List (List ℕ) → List ℕ → List ℕ → Type 0
-IsAnswerTo Find least answers kind objects line text =
-    IsTextOf {X = List (List ℕ)} (λ digits found. found ≡ matches digits objects) (λ l found. found_text id_line answers l found) kind line text
-IsAnswerTo Locate least answers kind objects line text =
+-- asked for, and for `abbreviate` it has the abbreviation of the only one
+abbrev pub IsAnswerTo : Question → ℕ → Wanted → Kind → List (List ℕ) → List ℕ → List ℕ → Type 0
+IsAnswerTo Find least wanted kind objects line text =
+    IsTextOf {X = List (List ℕ)} (λ digits found. found ≡ matches digits objects) (λ l found. found_text id_line wanted l found) kind line text
+IsAnswerTo Locate least wanted kind objects line text =
     (pack_path : ℕ → List ℕ)
-    × IsTextOf {X = List (LocatedId Global)} (λ digits located. map (λ (l : LocatedId Global). id_digits l.id) located ≡ limited_to (limit_for answers) (matches digits objects))
-    (λ l located. found_text (located_lines pack_path) answers l located) kind line text
-IsAnswerTo Names least answers kind objects line text =
-    IsTextOf {X = Abbreviation} (λ digits named. IsAbbreviatedAs least kind objects (matches digits objects) named) abbreviation_text kind line text
+    × IsTextOf {X = List (LocatedId Global)} (λ digits located. map (λ (l : LocatedId Global). id_digits l.id) located ≡ limited_to (limit_for wanted) (matches digits objects))
+    (λ l located. found_text (located_lines pack_path) wanted l located) kind line text
+IsAnswerTo Abbreviate least wanted kind objects line text =
+    IsTextOf {X = Abbreviation} (λ digits abbreviated. IsAbbreviatedAs least kind objects (matches digits objects) abbreviated) abbreviation_text kind line text
 
 -- the objects whose first byte is below n: those with each byte, in the order of the bytes
 unfoldable pub by_first_byte : ℕ → List (List ℕ) → List (List ℕ)
@@ -39,29 +39,29 @@ by_first_byte zero objects = []
 by_first_byte (suc n) objects = by_first_byte n objects ++ matches (n / 16 ∷ n % 16 ∷ []) objects
 
 -- all objects were written, each after its shortest prefix of at least `least` digits with which no other one begins
-pub record HasNamedAll (least : ℕ) (objects : List (List ℕ)) (old new : Option (List ℕ)) : Type 0 where
-  pub named : List NamedId
-  pub all : map (λ (n : NamedId). id_digits n.id) named ≡ by_first_byte 256 objects
-  pub names : All (λ (n : NamedId). IsNameIn least objects (id_digits n.id) n.name.digits) named
-  pub written : Appends old new (flat_map name_line named)
+pub record HasAbbreviatedAll (least : ℕ) (objects : List (List ℕ)) (old new : Option (List ℕ)) : Type 0 where
+  pub abbreviated : List AbbreviatedId
+  pub all : map (λ (n : AbbreviatedId). id_digits n.id) abbreviated ≡ by_first_byte 256 objects
+  pub abbreviations : All (λ (n : AbbreviatedId). IsAbbreviationIn least objects (id_digits n.id) n.abbreviation.digits) abbreviated
+  pub written : Appends old new (flat_map abbreviated_line abbreviated)
 
 -- as long as directories and files answer the same, a status of 0 or 1 says that all objects of an object directory and its alternates were written so, if the
 -- fan-out table of each pack index is right
 abbrev pub HasWrittenAll : ℕ → ObjectDirectory → Option Answers → ℕ → Option (List ℕ) → Option (List ℕ) → Type 0
 HasWrittenAll least directory known status old new = status ≤ 1 → IfKnown (λ at. (directories : List (List ℕ)) (objects : List (List ℕ))
     → AreWithAlternates at directory directories → HaveCounts at directory.kind directories → AreObjects at directory.kind loose_ids.All directories objects
-    → HasNamedAll least objects old new) known
+    → HasAbbreviatedAll least objects old new) known
 
 -- and that each of some lines was answered by these objects
-abbrev pub HasWrittenLines : Question → ℕ → AnswersAsked → ObjectDirectory → Option Answers → List (List ℕ) → ℕ → Option (List ℕ) → Option (List ℕ) → Type 0
-HasWrittenLines question least answers directory known lines status old new = status ≤ 1 → IfKnown (λ at. (directories : List (List ℕ)) (objects : List (List ℕ))
+abbrev pub HasWrittenLines : Question → ℕ → Wanted → ObjectDirectory → Option Answers → List (List ℕ) → ℕ → Option (List ℕ) → Option (List ℕ) → Type 0
+HasWrittenLines question least wanted directory known lines status old new = status ≤ 1 → IfKnown (λ at. (directories : List (List ℕ)) (objects : List (List ℕ))
     → AreWithAlternates at directory directories → HaveCounts at directory.kind directories → AreObjects at directory.kind loose_ids.All directories objects
-    → HasAnsweredEach (IsAnswerTo question least answers directory.kind objects) lines old new) known
+    → HasAnsweredEach (IsAnswerTo question least wanted directory.kind objects) lines old new) known
 
 -- what was asked about was answered by the objects: all ids; a prefix; or each line of an input, of which it may be known what it had left
 abbrev pub HasWritten : Question → ℕ → Kind → List (List ℕ) → Option (List ℕ) → Ask → Option (List ℕ) → Option (List ℕ) → Type 0
-HasWritten question least kind objects known asks.All old new = HasNamedAll least objects old new
-HasWritten question least kind objects known (asks.Prefix text answers) old new =
-    HasAnsweredEach (IsAnswerTo question least answers kind objects) (lines_of text.now) old new
-HasWritten question least kind objects known (asks.Lines answers) old new =
-    (text : List ℕ) × IfSome known (λ all. text ≡ made_whole all) × HasAnsweredEach (IsAnswerTo question least answers kind objects) (lines_of text) old new
+HasWritten question least kind objects known asks.All old new = HasAbbreviatedAll least objects old new
+HasWritten question least kind objects known (asks.Prefix text wanted) old new =
+    HasAnsweredEach (IsAnswerTo question least wanted kind objects) (lines_of text.now) old new
+HasWritten question least kind objects known (asks.Lines wanted) old new =
+    (text : List ℕ) × IfSome known (λ all. text ≡ made_whole all) × HasAnsweredEach (IsAnswerTo question least wanted kind objects) (lines_of text) old new

@@ -3,7 +3,7 @@
 ghost use Rattle.std.specs.Prelude.{◌≡◌, ◌≢◌, ◌<◌, ◌≤◌, ◌++◌, ℕ, IfOk, IfSome, IsErrOf, List, None, OnErr, OnOk, Option, false, length, max, string_bytes};
 ghost use Rattle.std.specs.Option.{ForSome};
 ghost use Rattle.packtool_commands.specs.Stores.{prefix_of};
-ghost use Rattle.packtool_commands.specs.declared.printing.Answers.{Answers as AnswersAsked};
+ghost use Rattle.packtool_commands.specs.declared.printing.Wanted.{Wanted};
 ghost use Rattle.packtool_commands.specs.declared.printing.NoAnswer.{NoAnswer};
 ghost use Rattle.directory_store.specs.Opened.{AreObjects, AreWithAlternates, HaveCounts};
 ghost use Rattle.directory_store.specs.declared.loose.LooseIds.{LooseIds};
@@ -25,7 +25,7 @@ use crate::request::{Ask, StoreRequest};
 use crate::words::{beginning, lossy_text};
 use directory_store::StoreFiles;
 use gix_hash::Kind;
-use packtool_commands::{Answers, NoAnswer, prefix_in};
+use packtool_commands::{NoAnswer, Wanted, prefix_in};
 use repositories::{ObjectDirectory, find_objects};
 use std::alloc::Global;
 use std::io::{self, BufWriter};
@@ -48,7 +48,8 @@ pub fn answer<'a>(rt: &HostRuntime, request: &StoreRequest<'a>) -> Result<u8, Fa
 /// As long as directories and files answer the same, and the fan-out table of each pack index is
 /// right, a call that returns 0 or 1 has written exactly what the objects of the directory and its
 /// alternates answer: for `find` the ids that begin with each prefix, and for `abbreviate` the
-/// shortest prefix of each id with which no other one begins.
+/// shortest prefix of each id with which no other one begins. Of `locate` this is so for the ids,
+/// and not for their locations.
 pub fn answer_in<'a, R: StoreFiles, I: io::Read + Drop, W: io::Write + Drop>(
     host: &HostRuntime,
     rt: &R,
@@ -78,12 +79,12 @@ pub(crate) trait AnswerLines {
     // is asked, and what directories and files answer.
     ghost asked: { Self → Question × ℕ × ObjectDirectory × Option Answers };
 
-    // It wrote what the store that it keeps has for lines, and ended with a status and with why the
-    // first line that has no answer has none.
-    ghost is_answer: { Question × ℕ × ObjectDirectory × Option Answers → AnswersAsked → Self
+    // It wrote what the objects of the directories answer to lines, and ended with a status and
+    // with why the first line that has no answer has none.
+    ghost is_answer: { Question × ℕ × ObjectDirectory × Option Answers → Wanted → Self
         → List ℕ → ℕ × Option NoAnswer → Option (List ℕ) → Option (List ℕ) → Type 0 };
 
-    // It wrote the abbreviations of all ids of the store that it keeps, and ended with a status.
+    // It wrote the abbreviations of all objects of the directories, and ended with a status.
     ghost has_all: { Question × ℕ × ObjectDirectory × Option Answers → Self → ℕ
         → Option (List ℕ) → Option (List ℕ) → Type 0 };
 
@@ -91,7 +92,7 @@ pub(crate) trait AnswerLines {
     fn write_all<'a, W: io::Write>(&mut self, out: &mut Plain<W>) -> Result<u8, Failure<'a>>
         requires { plain_failed out.old ≡ false }
         ensures output { OnOk result (plain_failed out.new ≡ false) }
-        ensures named { IfOk result (λ status. has_all (asked self.old) self.new status
+        ensures abbreviated { IfOk result (λ status. has_all (asked self.old) self.new status
             (W.contents (plain_inner out.old)) (W.contents (plain_inner out.new))) };
 
     // Writes what each of the lines finds in the store as it is now, and returns the status, and
@@ -100,14 +101,14 @@ pub(crate) trait AnswerLines {
     fn write_for_lines<'a, W: io::Write>(
         &mut self,
         lines: &[u8],
-        answers: Answers,
+        wanted: Wanted,
         out: &mut Plain<W>,
     ) -> Result<(u8, Option<NoAnswer>), Failure<'a>>
         requires { plain_failed out.old ≡ false }
         ensures same { asked self.new ≡ asked self.old }
         ensures output { OnOk result (plain_failed out.new ≡ false) }
         ensures untouched { IsErrOf result Failure.TooMany → out.new ≡ out.old }
-        ensures answered { IfOk result (λ ended. is_answer (asked self.old) answers self.new
+        ensures answered { IfOk result (λ ended. is_answer (asked self.old) wanted self.new
             lines.now ended (W.contents (plain_inner out.old))
             (W.contents (plain_inner out.new))) };
 }
@@ -117,7 +118,7 @@ pub(crate) trait AnswerLines {
 fn answer_lines<'a, A: AnswerLines, W: io::Write>(
     asked: &mut A,
     lines: &[u8],
-    answers: Answers,
+    wanted: Wanted,
     out: &mut Plain<W>,
 ) -> Result<u8, Failure<'a>>
     requires output { plain_failed out.old ≡ false }
@@ -126,7 +127,7 @@ fn answer_lines<'a, A: AnswerLines, W: io::Write>(
     ensures output { OnOk result (plain_failed out.new ≡ false) }
     ensures answered { IfOk result (λ status. (n : ℕ) × HasAnsweredParts
         (λ asker part own before after. (why : Option NoAnswer)
-        × A.is_answer (A.asked asked.old) answers asker part (own, why) before after)
+        × A.is_answer (A.asked asked.old) wanted asker part (own, why) before after)
         n asked.new lines.now status
         (W.contents (plain_inner out.old)) (W.contents (plain_inner out.new))) }
 {
@@ -138,7 +139,7 @@ fn answer_lines<'a, A: AnswerLines, W: io::Write>(
             return Ok(status);
         }
         let (part, after) = first_lines(rest, len);
-        match asked.write_for_lines(part, answers, out) {
+        match asked.write_for_lines(part, wanted, out) {
             Ok(ended) => {
                 status = status.max(ended.0);
                 rest = after;
@@ -169,8 +170,8 @@ fn answer_ask<'a, A: AnswerLines, I: io::Read + Drop, W: io::Write + Drop>(
 {
     match ask {
         Ask::All => return asked.write_all(out),
-        Ask::Prefix(text, answers) => return answer_prefix(host, kind, asked, text, answers, out),
-        Ask::Lines(answers) => return answer_input(host.alloc(), asked, answers, input, out),
+        Ask::Prefix(text, wanted) => return answer_prefix(host, kind, asked, text, wanted, out),
+        Ask::Lines(wanted) => return answer_input(host.alloc(), asked, wanted, input, out),
     }
 }
 
@@ -181,7 +182,7 @@ fn answer_prefix<'a, A: AnswerLines, W: io::Write>(
     kind: Kind,
     asked: &mut A,
     text: &'a str,
-    answers: Answers,
+    wanted: Wanted,
     out: &mut Plain<W>,
 ) -> Result<u8, Failure<'a>>
     requires { plain_failed out.old ≡ false }
@@ -189,12 +190,12 @@ fn answer_prefix<'a, A: AnswerLines, W: io::Write>(
     ensures output { OnOk result (plain_failed out.new ≡ false) }
     ensures prefix { OnOk result (prefix_of kind text.now ≢ None) }
     ensures answered { IfOk result (λ status. (why : Option NoAnswer)
-        × A.is_answer (A.asked asked.old) answers asked.new text.now (status, why)
+        × A.is_answer (A.asked asked.old) wanted asked.new text.now (status, why)
         (W.contents (plain_inner out.old)) (W.contents (plain_inner out.new))) }
 {
     expect_prefix(text, kind)?;
-    let (status, why) = asked.write_for_lines(text.as_bytes(), answers, out)?;
-    if let (Answers::BareOne, Some(why)) = (answers, why) {
+    let (status, why) = asked.write_for_lines(text.as_bytes(), wanted, out)?;
+    if let (Wanted::BareOne, Some(why)) = (wanted, why) {
         report(host, &format!(in host.alloc(); "{text}: {why}")?, "");
     }
     Ok(status)
@@ -205,7 +206,7 @@ fn answer_prefix<'a, A: AnswerLines, W: io::Write>(
 fn answer_input<'a, A: AnswerLines, I: io::Read + Drop, W: io::Write + Drop>(
     alloc: Global,
     asked: &mut A,
-    answers: Answers,
+    wanted: Wanted,
     input: I,
     out: &mut Plain<BufWriter<W>>,
 ) -> Result<u8, Failure<'a>>
@@ -215,7 +216,7 @@ fn answer_input<'a, A: AnswerLines, I: io::Read + Drop, W: io::Write + Drop>(
     ensures answered { IfOk result (λ status. (text : List ℕ)
         × IfSome (I.remaining input) (λ all. text ≡ made_whole all)
         × (n : ℕ) × HasAnsweredParts (λ asker chunk own before after. IsChunkAnswered
-        (A.is_answer (A.asked asked.old) answers) asker chunk own before after)
+        (A.is_answer (A.asked asked.old) wanted) asker chunk own before after)
         n asked.new text status (⟦<BufWriter<W> as io::Write>⟧.contents (plain_inner out.old))
         (⟦<BufWriter<W> as io::Write>⟧.contents (plain_inner out.new))) }
 {
@@ -225,7 +226,7 @@ fn answer_input<'a, A: AnswerLines, I: io::Read + Drop, W: io::Write + Drop>(
         if !reader.next()? {
             return Ok(status);
         }
-        let ran = answer_lines(asked, reader.lines(), answers, out);
+        let ran = answer_lines(asked, reader.lines(), wanted, out);
         flushed(FOUND, out)?;
         status = status.max(ran?);
     }

@@ -1,4 +1,4 @@
-//! What is asked of the store of an object directory, which is kept from one question to the next.
+//! What is asked of the store of an object directory, which is kept from one request to the next.
 
 ghost use Rattle.std.specs.Prelude.{◌≡◌, ◌↔◌, ◌≤◌, ◌++◌, [], All, Bool, IfOk, IsErrOf, IsSomeAnd, IsTrue, Ok, OnOk, Some, false, if◌then◌else◌, is_none, max, true};
 ghost use Rattle.std.specs.Global.{Global};
@@ -9,7 +9,7 @@ ghost use Rattle.object_store.specs.Stores.{IsReopened};
 ghost use Rattle.directory_store.specs.Opened.{HasAllOf};
 ghost use Rattle.directory_store.specs.Stores.{IsListedBy};
 ghost use Rattle.directory_store.specs.declared.loose.LooseIds.{LooseIds};
-ghost use Rattle.packtool_commands.specs.Stores.{AreListed, HasNamedBelow};
+ghost use Rattle.packtool_commands.specs.Stores.{AreListed, HasAbbreviatedBelow};
 ghost use Rattle.packtool_commands.specs.declared.error.StoreError.{StoreError};
 ghost use Rattle.repositories.specs.Answers.{IfKnown};
 ghost use Rattle.streams.specs.Devices.{plain_failed, plain_inner};
@@ -21,21 +21,22 @@ ghost use Rattle.store_questions.specs.declared.failure.Failure.{Failure};
 
 use crate::answering::AnswerLines;
 use crate::failure::{Failure, skipped_mark};
-use crate::output::report;
+use crate::output::{buffered, write_report};
 use crate::request::{Question, StoreRequest};
 use crate::{FAILED, FOUND, NOTHING};
 use directory_store::{DirectoryStore, Error, LooseIds, StoreFiles};
 use gix_hash::{Kind, Prefix};
 use object_store::{Reopen, Store, StorePaths};
 use packtool_commands::{
-    Answers, NoAnswer, PrefixLines, StoreError, find_each, locate_each, name_each, names,
+    NoAnswer, PrefixLines, StoreError, Wanted, abbreviate_all, abbreviate_each, find_each,
+    locate_each,
 };
 use repositories::ObjectDirectory;
 use std::alloc::{AllocError, Global};
 use std::collections::BTreeSet;
 use std::io;
 use std::time::{SystemTime, UNIX_EPOCH};
-use streams::{Plain, Sink};
+use streams::{BufferedSink, Plain, Sink};
 
 // The most ids or locations of several lines that are held at a time.
 const MAX_FOUND: usize = 1 << 16;
@@ -88,14 +89,17 @@ impl<'r, R: StoreFiles> Asked<'r, R> {
 impl<R: StoreFiles> Asked<'_, R> {
     // Opens the store, and writes the lines of `abbreviate`. Lines that were written before the
     // store was opened again may lack ids that were skipped then.
-    fn write_all_names<'a, W: io::Write>(&mut self, out: &mut Plain<W>) -> Result<u8, Failure<'a>>
+    fn write_all_abbreviations<'a, W: io::Write>(
+        &mut self,
+        out: &mut Plain<W>,
+    ) -> Result<u8, Failure<'a>>
         requires { plain_failed out.old ≡ false }
         ensures output { OnOk result (plain_failed out.new ≡ false) }
         ensures answered { IfOk result (λ status. IsSomeAnd self.new.kept (λ store. (any : Bool)
             × IsStatus (store.skipped_before.items ++ store.skipped.items) any status
             × (first : _) × IsStoreOf self.old.directory.now (R.answers self.old.rt.now)
             first.directory (R.answers first.rt) × (first.loose.which ≡ LooseIds.All)
-            × HasNamedBelow 256 self.old.least
+            × HasAbbreviatedBelow 256 self.old.least
             (⟦<DirectoryStore<R> as Reopen>⟧.had first store) any
             (W.contents (plain_inner out.old)) (W.contents (plain_inner out.new)))) }
         ensures written { IfOk result (λ status. HasWrittenAll self.old.least
@@ -103,7 +107,7 @@ impl<R: StoreFiles> Asked<'_, R> {
             (W.contents (plain_inner out.old)) (W.contents (plain_inner out.new))) }
     {
         let mut store = DirectoryStore::open(self.rt, self.directory, LooseIds::All)?;
-        let ran = names(self.host.alloc(), &mut store, self.least, out);
+        let ran = abbreviate_all(self.host.alloc(), &mut store, self.least, out);
         let was_whole = report_skipped(self.host, store.skipped_before(), &mut self.reported);
         let kept = self.keep(store, ran, out)?;
         let status = status_if(kept.1, kept.0);
@@ -124,7 +128,7 @@ impl<R: StoreFiles> Asked<'_, R> {
     fn write_lines<'a, W: io::Write>(
         &mut self,
         lines: &[u8],
-        answers: Answers,
+        wanted: Wanted,
         out: &mut Plain<W>,
     ) -> Result<(u8, Option<NoAnswer>), Failure<'a>>
         requires { plain_failed out.old ≡ false }
@@ -135,7 +139,7 @@ impl<R: StoreFiles> Asked<'_, R> {
         ensures output { OnOk result (plain_failed out.new ≡ false) }
         ensures untouched { IsErrOf result Failure.TooMany → out.new ≡ out.old }
         ensures answered { IfOk result (λ ended. IsSomeAnd self.new.kept (λ store. HasAsked Global
-            self.old.question self.old.least answers self.old.directory.now
+            self.old.question self.old.least wanted self.old.directory.now
             (R.answers self.old.rt.now) store.loose.which
             (⟦<DirectoryStore<R> as StorePaths>⟧.pack_path store)
             (⟦<DirectoryStore<R> as StorePaths>⟧.loose_paths store)
@@ -161,7 +165,7 @@ impl<R: StoreFiles> Asked<'_, R> {
             self.least,
             &mut store,
             &lines,
-            answers,
+            wanted,
             out,
         );
         let kept = self.keep(store, ran, out)?;
@@ -214,24 +218,24 @@ impl<R: StoreFiles> AnswerLines for Asked<'_, R> {
       R.answers asked.rt.now,
     ) };
 
-    ghost is_answer = { λ (question, least, directory, known) answers asked lines (status, why) old
-        new. HasWrittenLines question least answers directory known (lines_of lines) status old
+    ghost is_answer = { λ (question, least, directory, known) wanted asked lines (status, why) old
+        new. HasWrittenLines question least wanted directory known (lines_of lines) status old
         new };
 
     ghost has_all = { λ (question, least, directory, known) asked status old new. HasWrittenAll
         least directory known status old new };
 
     fn write_all<'a, W: io::Write>(&mut self, out: &mut Plain<W>) -> Result<u8, Failure<'a>> {
-        self.write_all_names(out)
+        self.write_all_abbreviations(out)
     }
 
     fn write_for_lines<'a, W: io::Write>(
         &mut self,
         lines: &[u8],
-        answers: Answers,
+        wanted: Wanted,
         out: &mut Plain<W>,
     ) -> Result<(u8, Option<NoAnswer>), Failure<'a>> {
-        self.write_lines(lines, answers, out)
+        self.write_lines(lines, wanted, out)
     }
 }
 
@@ -243,7 +247,7 @@ fn ask_for_lines<S: Reopen + StorePaths, W: Sink>(
     least: usize,
     store: &mut S,
     lines: &PrefixLines<'_, Global>,
-    answers: Answers,
+    wanted: Wanted,
     out: &mut W,
 ) -> Result<Option<NoAnswer>, StoreError>
     requires kind { lines.now.kind ≡ (S.view store.old).kind }
@@ -252,16 +256,16 @@ fn ask_for_lines<S: Reopen + StorePaths, W: Sink>(
     requires fits { least ≤ hex_len_of (S.view store.old).kind }
     requires output { W.has_failed out.old ≡ false }
     ensures reopened { IsReopened S.had S.view store.old store.new }
-    ensures answered { IfOk result (λ why. HasAnsweredLines Global question answers
+    ensures answered { IfOk result (λ why. HasAnsweredLines Global question wanted
         least (S.pack_path store.new) (S.loose_paths store.new) (S.view store.new)
         (lines_of lines.now.text.now) why (W.taken out.old) (W.taken out.new)) }
     ensures untouched { IsErrOf result StoreError.TooMany → out.new ≡ out.old }
     ensures output { IsErrOf result StoreError.Output ↔ (W.has_failed out.new ≡ true) }
 {
     match question {
-        Question::Find => find_each(alloc, store, lines, answers, MAX_FOUND, out),
-        Question::Locate => locate_each(alloc, store, lines, answers, MAX_FOUND, out),
-        Question::Names => name_each(alloc, store, lines, least, MAX_FOUND, out),
+        Question::Find => find_each(alloc, store, lines, wanted, MAX_FOUND, out),
+        Question::Locate => locate_each(alloc, store, lines, wanted, MAX_FOUND, out),
+        Question::Abbreviate => abbreviate_each(alloc, store, lines, least, MAX_FOUND, out),
     }
 }
 
@@ -298,12 +302,13 @@ fn store_now<'a, R: StoreFiles>(
         store.loose.which store.directory (⟦<DirectoryStore<R> as Store>⟧.view store))
         (R.answers store.rt)) }
 {
+    let now = SystemTime::now(host).unwrap_or(UNIX_EPOCH);
     let store = match kept {
         Some(mut store) => {
-            store.refresh(loose, SystemTime::now(host).unwrap_or(UNIX_EPOCH))?;
+            store.refresh(loose, now)?;
             store
         }
-        None => DirectoryStore::open(rt, directory, loose)?,
+        None => DirectoryStore::open_for_refresh(rt, directory, loose, now)?,
     };
     for prefix in checked {
         store.check_loose_files(prefix)?;
@@ -336,13 +341,35 @@ fn report_skipped(
 ) -> Result<bool, AllocError>
     ensures { IfOk result (λ is_whole. IsTrue is_whole ↔ (skipped.now ≡ [])) }
 {
+    if skipped.is_empty() {
+        return Ok(true);
+    }
+    let mut out = buffered(rt, rt.stderr())?;
+    let ran = write_reports(rt.alloc(), skipped, reported, &mut out);
+    let _ = out.flush();
+    ran?;
+    Ok(false)
+}
+
+// Writes the reports on what was skipped that are not written yet, up to the first that cannot be
+// written.
+fn write_reports<W: Sink>(
+    alloc: Global,
+    skipped: &[Error],
+    reported: &mut BTreeSet<String>,
+    out: &mut W,
+) -> Result<(), AllocError>
+    requires { W.has_failed out.old ≡ false }
+{
     for error in skipped {
-        let text = format!(in rt.alloc(); "{error}")?;
+        let text = format!(in alloc; "{error}")?;
         if reported.insert(text)? {
-            report(rt, error, skipped_mark(error));
+            let Ok(()) = write_report(alloc, error, skipped_mark(error), out)? else {
+                return Ok(());
+            };
         }
     }
-    Ok(skipped.is_empty())
+    Ok(())
 }
 
 // The status if a store was read whole, and has an id.

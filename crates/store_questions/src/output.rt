@@ -8,28 +8,41 @@ ghost use Rattle.store_questions.specs.declared.failure.Failure.{Failure};
 
 use crate::failure::Failure;
 use packtool_commands::write_named;
-use std::alloc::AllocError;
+use std::alloc::{AllocError, Global};
 use std::fmt::Display;
 use std::io::{self, BufWriter};
-use streams::{BufferedSink, Plain, Retrying};
+use streams::{BufferedSink, Plain, Retrying, Sink, WriteFailed};
 
 /// Prints a line on standard error: the program's name, an error and what is after it. If they have
 /// a backslash, a line feed or a carriage return, the line begins with a backslash and these are
 /// escaped, as names are in the output. If it cannot be printed, the status still tells of the
 /// error.
 pub fn report(rt: &HostRuntime, error: &impl Display, after: &str) {
-    if write_report(rt, error, after).is_err() {
+    if print_report(rt, error, after).is_err() {
         let _ = eprintln!(rt; "packtool: out of memory");
     }
 }
 
-// Writes that line, unless memory runs out.
-fn write_report(rt: &HostRuntime, error: &impl Display, after: &str) -> Result<(), AllocError> {
-    let line = format!(in rt.alloc(); "packtool: {error}{after}")?;
+// Prints that line, unless memory runs out.
+fn print_report(rt: &HostRuntime, error: &impl Display, after: &str) -> Result<(), AllocError> {
     let mut out = buffered(rt, rt.stderr())?;
-    let _ = write_named(&line, b"\n", &mut out);
+    let _ = write_report(rt.alloc(), error, after, &mut out)?;
     let _ = out.flush();
     Ok(())
+}
+
+// Writes that line. The outer error is that memory runs out.
+pub(crate) fn write_report<W: Sink>(
+    alloc: Global,
+    error: &impl Display,
+    after: &str,
+    out: &mut W,
+) -> Result<Result<(), WriteFailed>, AllocError>
+    requires { W.has_failed out.old ≡ false }
+    ensures { IfOk result (λ ran. OnOk ran (W.has_failed out.new ≡ false)) }
+{
+    let line = format!(in alloc; "packtool: {error}{after}")?;
+    Ok(write_named(&line, b"\n", out))
 }
 
 /// A buffer before a writer, whose calls are tried again if they are interrupted.

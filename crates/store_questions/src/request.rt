@@ -1,7 +1,7 @@
 //! What is asked of a store.
 
 use gix_hash::Kind;
-use packtool_commands::Answers;
+use packtool_commands::Wanted;
 
 /// A request to look ids up in a store.
 #[derive(Clone, Copy)]
@@ -26,7 +26,7 @@ pub enum Question {
     /// `locate`: in which packs and loose files these ids are.
     Locate,
     /// `abbreviate`: which abbreviations ids have.
-    Names,
+    Abbreviate,
 }
 
 /// What a question is about.
@@ -35,7 +35,7 @@ pub enum Ask<'a> {
     /// All ids, which only `abbreviate` takes.
     All,
     /// A prefix, which is this text, and what is printed for it.
-    Prefix(&'a str, Answers),
+    Prefix(&'a str, Wanted),
     /// Each line of standard input, and what is printed for it.
-    Lines(Answers),
+    Lines(Wanted),
 }

@@ -1,6 +1,6 @@
 -- Writing a list of bytes chunk by chunk.
 use Rattle.gix_hash.proofs.Std.{nat_tests, Bool, false, ◌||◌, Ok, ◌≡◌, ◌≢◌, ℕ, ◌+◌, ◌-◌, ◌<◌, Option, Some, None, List, [], ◌++◌, length, take, drop, sym, ap, ◌∙◌, subst, arith, take-append-drop, append-nil, take-add, length-drop, take_rest, Appends-trans, Appends, Keeps}
-use Rattle.streams.specs.Streams.{AppendsPart, write_fails}
+use Rattle.streams.specs.Streams.{AppendsBeginning, write_fails}
 use Rattle.streams.proofs.WritingLemmas.{Appends-kept}
 
 -- the bytes before an index, and then the first ones from there on
@@ -14,9 +14,9 @@ Appends-chunk a b c at n bytes first second =
     subst (Appends a c) (take-chunk at n bytes) (Appends-trans a b c _ _ first second)
 
 -- the bytes before an index of the list are a proper beginning of it
-pub AppendsPart-take : (a b c : Option (List ℕ)) (at : ℕ) (bytes : List ℕ) → at < length bytes → Appends a b (take at bytes) → Keeps b c
-    → AppendsPart a c bytes
-AppendsPart-take a b c at bytes short taken kept = record {
+pub AppendsBeginning-take : (a b c : Option (List ℕ)) (at : ℕ) (bytes : List ℕ) → at < length bytes → Appends a b (take at bytes) → Keeps b c
+    → AppendsBeginning a c bytes
+AppendsBeginning-take a b c at bytes short taken kept = record {
   part = take at bytes;
   rest = drop at bytes;
   is_beginning = sym (take-append-drop at bytes);
@@ -31,10 +31,10 @@ Keeps-nil (Some x) None p = absurd p
 Keeps-nil (Some x) (Some y) p = p ∙ append-nil x
 
 -- the same, if the last write took none of the chunk
-pub AppendsPart-none : (a b c : Option (List ℕ)) (at n : ℕ) (bytes : List ℕ) → n ≡ 0 → at < length bytes → Appends a b (take at bytes)
-    → Appends b c (take n (take (length bytes - at) (drop at bytes))) → AppendsPart a c bytes
-AppendsPart-none a b c at n bytes none short taken last =
-    AppendsPart-take a b c at bytes short taken (Keeps-nil b c (rw none at last))
+pub AppendsBeginning-none : (a b c : Option (List ℕ)) (at n : ℕ) (bytes : List ℕ) → n ≡ 0 → at < length bytes → Appends a b (take at bytes)
+    → Appends b c (take n (take (length bytes - at) (drop at bytes))) → AppendsBeginning a c bytes
+AppendsBeginning-none a b c at n bytes none short taken last =
+    AppendsBeginning-take a b c at bytes short taken (Keeps-nil b c (rw none at last))
 
 -- a write that took at least one byte did not fail
 pub not_failed : (n : ℕ) (old new : Bool) (chunk : List ℕ) → n ≢ 0 → old ≡ false → new ≡ (old || write_fails {E = Unit {0}} (Ok n) chunk) → new ≡ false

@@ -20,7 +20,7 @@ write_fails (Ok n) bytes = n == 0 && not (length bytes == 0)
 write_fails (Err e) bytes = true
 
 -- a proper beginning of what was to be written was written
-pub record AppendsPart (old new : Option (List ℕ)) (whole : List ℕ) : Type 0 where
+pub record AppendsBeginning (old new : Option (List ℕ)) (whole : List ℕ) : Type 0 where
   pub part : List ℕ
   pub rest : List ℕ
   pub is_beginning : whole ≡ part ++ rest
@@ -38,7 +38,7 @@ pub record AppendsAtMost (old new : Option (List ℕ)) (whole : List ℕ) : Type
 pub record Wrote {S : Type 0} (taken : S → Option (List ℕ)) (has_failed : S → Bool) (old new : S) (result : Result (Unit {0}) WriteFailed) (bytes : List ℕ) : Type 0 where
   pub written : OnOk result (Appends (taken old) (taken new) bytes)
   pub not_failed : OnOk result (has_failed new ≡ false)
-  pub part : OnErr result (AppendsPart (taken old) (taken new) bytes)
+  pub part : OnErr result (AppendsBeginning (taken old) (taken new) bytes)
   pub failed : OnErr result (has_failed new ≡ true)
 
 -- The bytes that were read from a source, and the limit of 2^61 bytes: FIPS 180-4 defines digests of fewer than 2^64 bits.
@@ -114,14 +114,14 @@ digest_line kind message = line_of hex_letter (id_digits (digest kind message))
 -- hashing stops with this error: what was read, and what the sink took of the line
 abbrev pub HashingFails : PipeError → Kind → Option (List ℕ) → Option (List ℕ) → Option (List ℕ) → Option (List ℕ) → Type 0
 HashingFails Input kind source source' sink sink' = (message : List ℕ) × HasRead source source' message
-HashingFails Output kind source source' sink sink' = (message : List ℕ) × HasReadAll source source' message × AppendsPart sink sink' (digest_line kind message)
+HashingFails Output kind source source' sink sink' = (message : List ℕ) × HasReadAll source source' message × AppendsBeginning sink sink' (digest_line kind message)
 HashingFails TooMuch kind source source' sink sink' = (message : List ℕ) × HasReadTooMuch source source' message
 
 -- sealing stops with this error: what was read, and what the sink took of the sealed message
 abbrev pub SealingFails : PipeError → Kind → Option (List ℕ) → Option (List ℕ) → Option (List ℕ) → Option (List ℕ) → Type 0
 SealingFails Input kind source source' sink sink' = (message : List ℕ) × HasRead source source' message × Appends sink sink' message
-SealingFails Output kind source source' sink sink' = (message : List ℕ) × HasRead source source' message × AppendsPart sink sink' (sealed kind message)
-SealingFails TooMuch kind source source' sink sink' = (message : List ℕ) × HasReadTooMuch source source' message × AppendsPart sink sink' message
+SealingFails Output kind source source' sink sink' = (message : List ℕ) × HasRead source source' message × AppendsBeginning sink sink' (sealed kind message)
+SealingFails TooMuch kind source source' sink sink' = (message : List ℕ) × HasReadTooMuch source source' message × AppendsBeginning sink sink' message
 
 -- Which bytes are sealed, and how bytes end.
 

@@ -1,7 +1,7 @@
 use Rattle.std.proofs.Common.{◌≡◌, ◌+◌, true≢false, refl, sym, ap, ◌∙◌, subst}
 use Rattle.gix_hash.specs.Words.{KindDigits}
 use Rattle.id_lookup.specs.Words.{IsAnswer, IsRun}
-use Rattle.pack_index.specs.Format.{IndexFile, names_in}
+use Rattle.pack_index.specs.Format.{IndexFile, ids_in}
 use Rattle.callers.proofs.OnlyMatches.{not_one}
 use Rattle.callers.proofs.offsets.typed_offset.Goals as goal
 
@@ -13,7 +13,7 @@ pub returns-in-One-clause-none : goal.returns-in-One-clause-none
 returns-in-One-clause-none c =
     let prefix = c.in-Ok.prefix in
     let at = c.in-One.at in
-    let run = subst (λ (file : IndexFile). IsRun prefix (names_in file.kind file.bytes) (record { start = at; end = at + 1 })) c.in-Ok-try_new.ensures.ok c.in-One.ensures in (
+    let run = subst (λ (file : IndexFile). IsRun prefix (ids_in file.kind file.bytes) (record { start = at; end = at + 1 })) c.in-Ok-try_new.ensures.ok c.in-One.ensures in (
       λ no. absurd (true≢false no),
       λ none. absurd (none at (record { prefix = prefix; reads = sym c.in-Ok.ensures.read; index = c.in-Ok-try_new.ensures.accepted.0 refl; run = run })),
     )
@@ -21,8 +21,8 @@ returns-in-One-clause-none c =
 pub returns-in-None : goal.returns-in-None
 returns-in-None c =
     let prefix = c.in-Ok.prefix in
-    let names = names_in c.args.kind c.args.bytes.now in
-    let answer = subst (λ (file : IndexFile). IsAnswer prefix (names_in file.kind file.bytes) c.lookup_prefix.result) c.in-Ok-try_new.ensures.ok c.lookup_prefix.ensures in
+    let names = ids_in c.args.kind c.args.bytes.now in
+    let answer = subst (λ (file : IndexFile). IsAnswer prefix (ids_in file.kind file.bytes) c.lookup_prefix.result) c.in-Ok-try_new.ensures.ok c.lookup_prefix.ensures in
     record {
       offset = tt;
       none = (

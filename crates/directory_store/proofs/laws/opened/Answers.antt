@@ -1,4 +1,4 @@
-use Rattle.directory_store.proofs.AllBytes.{found_of_all, named_of_all}
+use Rattle.directory_store.proofs.AllBytes.{found_of_all, abbreviation_of_all}
 use Rattle.directory_store.proofs.Wholes.{found_members}
 use Rattle.directory_store.proofs.laws.opened.Goals as goal
 
@@ -10,6 +10,6 @@ pub returns-clause-members : goal.returns-clause-members
 returns-clause-members c = λ at which directories view prefix ids has counted long found digits.
     found_members at which directories view prefix found.read _ has counted long found.ids_read found.index digits
 
-pub returns-clause-named : goal.returns-clause-named
-returns-clause-named c = λ at which directories objects view read least id name has counted are listed of_id two is.
-    named_of_all at which directories objects view has counted are read least id name listed of_id two is
+pub returns-clause-abbreviated : goal.returns-clause-abbreviated
+returns-clause-abbreviated c = λ at which directories objects view read least id name has counted are listed of_id two is.
+    abbreviation_of_all at which directories objects view has counted are read least id name listed of_id two is

@@ -1,6 +1,6 @@
 use Rattle.gix_hash.proofs.Std.{◌<◌, inl, inr, refl, sym, ◌∙◌, arith, false≢true}
 use Rattle.pack_index.specs.Format.{num_objects}
-use Rattle.pack_index.proofs.Counted.{length-names_in}
+use Rattle.pack_index.proofs.Counted.{length-ids_in}
 use Rattle.gix_hash_c.proofs.packs.gix_hash_pack_entry.Goals as goal
 
 pub returns-then-not-has_offset : goal.returns-then-not-has_offset
@@ -16,6 +16,6 @@ returns-then-not-has_offset c =
       )),
     ))
 
-pub name_at-requires : goal.name_at-requires
-name_at-requires c =
-    rw c.id_table.ensures (omega (arith, c.if-at-num_objects.false, c.num_objects.ensures, length-names_in c.in-Some.kind c.args.bytes.now c.in_default-tables.ensures.tables))
+pub id_at-requires : goal.id_at-requires
+id_at-requires c =
+    rw c.id_table.ensures (omega (arith, c.if-at-num_objects.false, c.num_objects.ensures, length-ids_in c.in-Some.kind c.args.bytes.now c.in_default-tables.ensures.tables))

@@ -1,6 +1,6 @@
 use Rattle.id_lookup.proofs.Beginnings.{matches-part, part-matches}
 use Rattle.id_lookup.proofs.Filters.{filter-flat}
-use Rattle.id_lookup.proofs.NamesInPart.{name-whole}
+use Rattle.id_lookup.proofs.AbbreviationsInPart.{abbreviation-whole}
 use Rattle.id_lookup.proofs.SameMembers.{part_is}
 use Rattle.id_lookup.proofs.part_laws.parts.Goals as goal
 
@@ -17,4 +17,4 @@ pub returns-clause-two : goal.returns-clause-two
 returns-clause-two c = part-matches
 
 pub returns-clause-names : goal.returns-clause-names
-returns-clause-names c = name-whole
+returns-clause-names c = abbreviation-whole

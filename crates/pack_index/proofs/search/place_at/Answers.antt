@@ -1,7 +1,7 @@
 use Rattle.gix_hash.proofs.Std.{◌+◌, ◌*◌, ◌∙◌, ℕ, [], get_or, take, ap, arith, subst, err_from_is_err_and}
 use Rattle.id_lookup.specs.Words.{byte_len_of, place}
 use Rattle.streams.specs.Streams.{IsReadAt}
-use Rattle.pack_index.specs.Format.{names_in}
+use Rattle.pack_index.specs.Format.{ids_in, num_objects}
 use Rattle.pack_index.proofs.Buckets.{eight, id_begins, id_fits}
 use Rattle.pack_index.proofs.Fronts.{place-first}
 use Rattle.pack_index.proofs.search.place_at.Goals as goal
@@ -15,8 +15,8 @@ returns-in_default g c = record {
       let ids = c.requires.known bytes is in
       let read : IsReadAt bytes (1032 + byte_len_of kind * c.args.at) first =
       subst (λ (from : ℕ). IsReadAt bytes from first) c.name_start.ensures (c.in_ok-read_exact_at.ensures.bytes bytes is) in
-      let begins = id_begins kind bytes ids.tables first c.args.at (omega (arith, ids.inside)) read (omega (arith, c.read_exact_at.auto.buf)) in
-      place-first digits (get_or (names_in kind bytes) c.args.at []) c.place.result
+      let begins = id_begins kind bytes 1032 (num_objects bytes) (omega (arith, ids.tables.fits)) first c.args.at (omega (arith, ids.inside)) read (omega (arith, c.read_exact_at.auto.buf)) in
+      place-first digits (get_or (ids_in kind bytes) c.args.at []) c.place.result
       (c.place.ensures (take 16 digits) c.requires.front ∙ ap (place (take 16 digits)) begins) c.in_default.not-Equal;
   err = tt;
 }

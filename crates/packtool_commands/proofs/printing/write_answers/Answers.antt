@@ -2,8 +2,8 @@ use Rattle.gix_hash.proofs.Std.{◌≡◌, ◌∙◌, ◌++◌, ◌∷◌, ◌+�
 use Rattle.std.proofs.lemmas.List.Sums.{fold-append}
 use Rattle.std.specs.Option.{option_or}
 use Rattle.std.specs.Prelude.{fold}
-use Rattle.streams.specs.Streams.{AppendsPart}
-use Rattle.streams.proofs.WritingLemmas.{AppendsPart-after, AppendsPart-more, OnErr-of}
+use Rattle.streams.specs.Streams.{AppendsBeginning}
+use Rattle.streams.proofs.WritingLemmas.{AppendsBeginning-after, AppendsBeginning-more, OnErr-of}
 use Rattle.packtool_commands.specs.Stores.{answer_of, answers_by, no_answer_by, with_found}
 use Rattle.packtool_commands.proofs.AnswerLemmas.{first_why, mark}
 use Rattle.packtool_commands.proofs.printing.write_answers.Goals as goal
@@ -23,10 +23,10 @@ returns-in_err-write_answer-clause-part g c =
     let more = with_found rest c.answer_to.result.1.now in
     let step = ap (λ ls. with_found (map mark ls) c.loop-line.left.now) (drop_more seen at _ c.loop-line-test.true) ∙ c.answer_to.ensures rest in
     let all = ap (λ ls. i.before ++ with_found (map mark (drop at ls)) c.loop-line.left.now) same ∙ i.parts ∙ ap (λ ls. with_found ls c.args.found.now) c.args.lines.now.are_lines in
-    OnErr-of _ _ (subst (AppendsPart (g.W.Sink.taken c.args.out.now) (g.W.Sink.taken c.write_answer.new.out))
+    OnErr-of _ _ (subst (AppendsBeginning (g.W.Sink.taken c.args.out.now) (g.W.Sink.taken c.write_answer.new.out))
     (sym (flat_map-append text i.before (_ ∷ more)) ∙ ap (flat_map text) (ap (λ ls. i.before ++ ls) (sym step) ∙ all))
-    (AppendsPart-after _ (g.W.Sink.taken c.loop-line.out) _ (flat_map text i.before) _ i.written
-    (AppendsPart-more _ _ _ (flat_map text more) c.in_err-write_answer.ensures.part)))
+    (AppendsBeginning-after _ (g.W.Sink.taken c.loop-line.out) _ (flat_map text i.before) _ i.written
+    (AppendsBeginning-more _ _ _ (flat_map text more) c.in_err-write_answer.ensures.part)))
 
 pub returns-clause-written : goal.returns-clause-written
 unfolding answers_by

@@ -28,7 +28,7 @@ loop-preserved g c =
         text ++ lines,
         suc n,
         Consumes-trans _ _ _ text lines read c.next.ensures.lines,
-        chunk-more (λ asked. g.A.AnswerLines.is_answer asked c.args.answers) _ _ c.loop.asked c.answer_lines-ran.new.asked text c.lines.result.now lines n c.loop.status
+        chunk-more (λ asked. g.A.AnswerLines.is_answer asked c.args.wanted) _ _ c.loop.asked c.answer_lines-ran.new.asked text c.lines.result.now lines n c.loop.status
             c.in_ok-ran.field-0 _ _ _ _ _ same c.lines.ensures c.next.ensures.whole c.max-status.ensures parts c.in_ok-ran.ensures.answered c.flushed.ensures.bytes,
       ),
     )

@@ -10,5 +10,5 @@ abbrev pub invariant-loop : goal.invariant-loop
 invariant-loop g l =
     (g.A.AnswerLines.asked l.asked ≡ g.A.AnswerLines.asked l.fn.asked) × (plain_failed l.out ≡ false)
     × ((text : List ℕ) × (n : ℕ) × Consumes (option_map made_whole (g.I.Read.remaining l.fn.input)) (to_come g.I.Read.remaining l.reader) text
-    × HasAnsweredParts (λ asker chunk own before after. IsChunkAnswered (g.A.AnswerLines.is_answer (g.A.AnswerLines.asked l.fn.asked) l.answers) asker chunk own before after)
+    × HasAnsweredParts (λ asker chunk own before after. IsChunkAnswered (g.A.AnswerLines.is_answer (g.A.AnswerLines.asked l.fn.asked) l.wanted) asker chunk own before after)
     n l.asked text l.status (writer_contents g.W.Write.contents (plain_inner l.fn.out)) (writer_contents g.W.Write.contents (plain_inner l.out)))

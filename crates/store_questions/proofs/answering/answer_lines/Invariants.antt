@@ -10,5 +10,5 @@ invariant-loop g l =
     (g.A.AnswerLines.asked l.asked ≡ g.A.AnswerLines.asked l.fn.asked) × (plain_failed l.out ≡ false) × AreWhole l.rest
     × ((before : List ℕ) × (n : ℕ) × (last : _) × (l.lines ≡ before ++ l.rest) × (length l.rest ≡ 0 → l.asked ≡ last)
     × HasAnsweredParts (λ asker part own old new. (why : Option NoAnswer)
-    × g.A.AnswerLines.is_answer (g.A.AnswerLines.asked l.fn.asked) l.answers asker part (own, why) old new) n last before l.status
+    × g.A.AnswerLines.is_answer (g.A.AnswerLines.asked l.fn.asked) l.wanted asker part (own, why) old new) n last before l.status
     (g.W.Write.contents (plain_inner l.fn.out)) (g.W.Write.contents (plain_inner l.out)))

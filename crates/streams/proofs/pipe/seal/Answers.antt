@@ -1,6 +1,6 @@
 use Rattle.gix_hash.proofs.Std.{ap, ◌∙◌, err_from_is_err_and}
 use Rattle.gix_hash.specs.Words.{id_bytes}
-use Rattle.streams.proofs.WritingLemmas.{AppendsPart-after}
+use Rattle.streams.proofs.WritingLemmas.{AppendsBeginning-after}
 use Rattle.streams.proofs.pipe.seal.Goals as goal
 
 pub returns-in_err-write_all-clause-stopped : goal.returns-in_err-write_all-clause-stopped
@@ -12,5 +12,5 @@ returns-in_err-write_all-clause-stopped g c =
     rw (exit.1, exit.2) (
       copied.0,
       record { gives = copied.1.gives; short = copied.1.short },
-      rw (← digest_bytes) (AppendsPart-after _ _ _ copied.0 c.as_slice.result.now copied.2 c.in_err-write_all.ensures.part),
+      rw (← digest_bytes) (AppendsBeginning-after _ _ _ copied.0 c.as_slice.result.now copied.2 c.in_err-write_all.ensures.part),
     )

@@ -1,5 +1,5 @@
 use Rattle.gix_hash.proofs.Std.{arith, rules}
-use Rattle.streams.proofs.Taking.{Appends-chunk, AppendsPart-take, AppendsPart-none, not_failed}
+use Rattle.streams.proofs.Taking.{Appends-chunk, AppendsBeginning-take, AppendsBeginning-none, not_failed}
 use Rattle.streams.proofs.sink.write_all.Goals as goal
 
 pub loop-at-preserved : goal.loop-at-preserved
@@ -13,7 +13,7 @@ pub returns-then-count-eq0 : goal.returns-then-count-eq0
 returns-then-count-eq0 g c = record {
   written = tt;
   not_failed = tt;
-  part = AppendsPart-none _ _ _ c.loop-at.at c.in-Ok.count c.args.bytes.now c.if-count-eq0.true c.loop-at-test.true c.loop-at.invariant.1 c.in-Ok.ensures.bytes;
+  part = AppendsBeginning-none _ _ _ c.loop-at.at c.in-Ok.count c.args.bytes.now c.if-count-eq0.true c.loop-at-test.true c.loop-at.invariant.1 c.in-Ok.ensures.bytes;
   failed = search rules;
 }
 
@@ -21,6 +21,6 @@ pub returns-in_default : goal.returns-in_default
 returns-in_default g c = record {
   written = tt;
   not_failed = tt;
-  part = AppendsPart-take _ _ _ c.loop-at.at c.args.bytes.now c.loop-at-test.true c.loop-at.invariant.1 c.in_default.ensures.bytes;
+  part = AppendsBeginning-take _ _ _ c.loop-at.at c.args.bytes.now c.loop-at-test.true c.loop-at.invariant.1 c.in_default.ensures.bytes;
   failed = search rules;
 }

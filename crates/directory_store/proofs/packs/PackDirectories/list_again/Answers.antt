@@ -4,7 +4,7 @@ use Rattle.directory_store.proofs.packs.PackDirectories.list_again.Goals as goal
 
 pub returns-clause-earlier : goal.returns-clause-earlier
 returns-clause-earlier g c = λ whole.
-    subst (λ listed. All (IsListedPack listed) c.args.earlier.now.paths.items) (sym (c.in_ok-listed-2.ensures.all whole)) c.in_ok-expect_all.ensures
+    subst (λ listed. All (IsListedPack listed) c.args.earlier.paths.items) (sym (c.in_ok-listed-2.ensures.all whole)) c.in_ok-listed.ensures.earlier
 
 pub returns-clause-packs : goal.returns-clause-packs
 returns-clause-packs g c = λ at known. record {

@@ -1,13 +1,9 @@
 use mathlib.Core.Logic.{∥∥₁_map₂}
-use Rattle.gix_hash.proofs.Std.{◌≡◌, ◌∙◌, ◌++◌, ◌∷◌, [], All, All-cons, All-head, All-push, All-tail, Bool, List, ap, false, if◌then◌else◌, map, string_bytes, subst, sym, true}
+use Rattle.gix_hash.proofs.Std.{◌≡◌, ◌∙◌, All, All-cons, All-head, All-tail, ap, map, string_bytes, subst, sym}
 use Rattle.directory_store.specs.Opened.{AreLooseOf}
 use Rattle.directory_store.specs.declared.loose.LooseObjects.{LooseObjects}
+use Rattle.directory_store.proofs.Members.{pushed}
 use Rattle.directory_store.proofs.store.DirectoryStore.look_again.Goals as goal
-
--- with one more, if there is room
-pushed : {X : Type 0} (P : X → Type 0) (xs : List X) (x : X) (ok : Bool) → All P xs → P x → All P (if ok then xs ++ x ∷ [] else xs)
-pushed P xs x true all one = All-push P xs x all one
-pushed P xs x false all one = all
 
 pub invariant_of-self-then-not-is_listed-clause-before_of_kind : goal.invariant_of-self-then-not-is_listed-clause-before_of_kind
 invariant_of-self-then-not-is_listed-clause-before_of_kind g c =

@@ -5,7 +5,7 @@ use Rattle.std.specs.Prelude.{Vec}
 use Rattle.object_store.proofs.Replaced.{with_item_same}
 use Rattle.pack_index.specs.Lazy.{LazyIndex}
 use Rattle.repositories.specs.Answers.{IfKnown}
-use Rattle.directory_store.specs.Opened.{AreLooseOf, AreOpened}
+use Rattle.directory_store.specs.Opened.{AreLooseOf, AreOpened, HaveReasons}
 use Rattle.directory_store.specs.Stores.{index_path}
 use mathlib.Core.HLevel.{is_prop→PathP}
 use Rattle.directory_store.proofs.store.DirectoryStoreStore.part.Goals as goal
@@ -31,10 +31,11 @@ returns-clause-same g c =
     let Opened : Vec LazyIndex Global → Type 0 = λ v. ∥ (self.skipped.items ≡ []
     → IfKnown (λ at. AreOpened at self.directory (map string_bytes self.directories.paths.items) (map index_path self.packs.items) v.items) (g.R.Directories.answers self.rt)) ∥₁ in
     let Listed : Type 0 = ∥ IfKnown (λ at. All (AreLooseOf at self.directory.kind (map string_bytes self.directories.paths.items)) (self.loose ∷ self.loose_before.items)) (g.R.Directories.answers self.rt) ∥₁ in
+    let Reasons : Type 0 = HaveReasons (g.R.Directories.answers self.rt) self.directory (map index_path self.packs.items) self.skipped.items in
     let stays : (v : Vec LazyIndex Global) (paths : OfPaths v) (kind : OfKind v) (loose : self.loose.kind ≡ self.directory.kind) (before : All (λ l. l.kind ≡ self.directory.kind) self.loose_before.items)
-    (opened : Opened v) (listed : Listed)
-    → v ≡ self.indexes → record self { indexes = v; of_paths = paths; of_kind = kind; loose_of_kind = loose; before_of_kind = before; are_opened = opened; are_loose = listed } ≡ self =
-    λ v paths kind loose before opened listed same i. record self {
+    (opened : Opened v) (listed : Listed) (reasons : Reasons)
+    → v ≡ self.indexes → record self { indexes = v; of_paths = paths; of_kind = kind; loose_of_kind = loose; before_of_kind = before; are_opened = opened; are_loose = listed; have_reasons = reasons } ≡ self =
+    λ v paths kind loose before opened listed reasons same i. record self {
       indexes = same i;
       of_paths = is_prop→PathP (λ j. OfPaths (same j)) (λ j. hlevel props) paths self.of_paths i;
       of_kind = is_prop→PathP (λ j. OfKind (same j)) (λ j. hlevel props) kind self.of_kind i;
@@ -42,5 +43,6 @@ returns-clause-same g c =
       before_of_kind = is_prop→PathP (λ _. All (λ l. l.kind ≡ self.directory.kind) self.loose_before.items) (λ _. hlevel props) before self.before_of_kind i;
       are_opened = is_prop→PathP (λ j. Opened (same j)) (λ j. hlevel props) opened self.are_opened i;
       are_loose = is_prop→PathP (λ _. Listed) (λ _. hlevel props) listed self.are_loose i;
+      have_reasons = is_prop→PathP (λ _. Reasons) (λ _. hlevel props) reasons self.have_reasons i;
     } in
-    stays _ _ _ _ _ _ _ (with_item_same self.indexes c.args.at c.part.new.self (rw c.part.ensures.same c.index_mut.ensures.value))
+    stays _ _ _ _ _ _ _ _ (with_item_same self.indexes c.args.at c.part.new.self (rw c.part.ensures.same c.index_mut.ensures.value))

@@ -2,31 +2,31 @@ use Rattle.gix_hash.proofs.Std.{◌≡◌, ◌∙◌, None, inl, inr, ap, length
 use Rattle.id_lookup.specs.Words.{KindDigits, hex_len_of, id_digits}
 use Rattle.object_store.specs.Several.{IsAbbreviated}
 use Rattle.object_store.specs.Stores.{IsAbbreviationOf}
-use Rattle.object_store.proofs.Abbreviated.{name_ambiguous, name_missing, name_named}
+use Rattle.object_store.proofs.Abbreviated.{abbreviation_ambiguous, abbreviation_missing, abbreviation_unique}
 use Rattle.object_store.proofs.parts.Parts.abbreviate.Given.{Over}
-use Rattle.object_store.proofs.parts.Parts.abbreviate.Goals.{In_ok-named}
+use Rattle.object_store.proofs.parts.Parts.abbreviate.Goals.{In_ok-abbreviated}
 use Rattle.object_store.proofs.parts.Parts.abbreviate.Goals as goal
 
-module _ (g : Over) (c : In_ok-named g) where
+module _ (g : Over) (c : In_ok-abbreviated g) where
   long : length (id_digits c.args.id.now) ≡ hex_len_of (g.S.Store.view c.args.self.now.now).kind
   long = c.kind-kind.ensures.len ∙ ap hex_len_of c.requires.kind
 
-  name : IsAbbreviated c.args.least (g.S.Store.view c.args.self.now.now) (id_digits c.args.id.now) c.in_ok-named.field-0
-  name = subst (λ (p : KindDigits). IsAbbreviated c.args.least (g.S.Store.view c.args.self.now.now) p.digits c.in_ok-named.field-0) c.from.ensures c.in_ok-named.ensures.name
+  name : IsAbbreviated c.args.least (g.S.Store.view c.args.self.now.now) (id_digits c.args.id.now) c.in_ok-abbreviated.field-0
+  name = subst (λ (p : KindDigits). IsAbbreviated c.args.least (g.S.Store.view c.args.self.now.now) p.digits c.in_ok-abbreviated.field-0) c.from.ensures c.in_ok-abbreviated.ensures.name
 
-pub returns-in-Named-clause-name : goal.returns-in-Named-clause-name
-returns-in-Named-clause-name g c =
-    let here = (goal.at.returns-in-Named-clause-name g c).In_ok-named in
+pub returns-in-Unique-clause-name : goal.returns-in-Unique-clause-name
+returns-in-Unique-clause-name g c =
+    let here = (goal.at.returns-in-Unique-clause-name g c).In_ok-abbreviated in
     let id = id_digits c.args.id.now in
-    name_named c.args.least (g.S.Store.view c.args.self.now.now) id (long g here) c.in-Named.named (subst (IsAbbreviated c.args.least (g.S.Store.view c.args.self.now.now) id) c.in-Named.is (name g here))
+    abbreviation_unique c.args.least (g.S.Store.view c.args.self.now.now) id (long g here) c.in-Unique.abbreviated (subst (IsAbbreviated c.args.least (g.S.Store.view c.args.self.now.now) id) c.in-Unique.is (name g here))
 
 pub returns-in-Missing : goal.returns-in-Missing
 returns-in-Missing g c =
-    let here = (goal.at.returns-in-Missing g c).In_ok-named in
+    let here = (goal.at.returns-in-Missing g c).In_ok-abbreviated in
     let view = g.S.Store.view c.args.self.now.now in
     let id = id_digits c.args.id.now in
     let none : IsAbbreviationOf c.args.least view id None = elim c.in-Missing.is [
-      | inl missing ↦ name_missing c.args.least view id (long g here) (subst (IsAbbreviated c.args.least view id) missing (name g here))
-      | inr ambiguous ↦ name_ambiguous c.args.least view id (long g here) (subst (IsAbbreviated c.args.least view id) ambiguous (name g here))
+      | inl missing ↦ abbreviation_missing c.args.least view id (long g here) (subst (IsAbbreviated c.args.least view id) missing (name g here))
+      | inr ambiguous ↦ abbreviation_ambiguous c.args.least view id (long g here) (subst (IsAbbreviated c.args.least view id) ambiguous (name g here))
     ] in
-    record { store = c.in_ok-named.ensures.store; name = none; err = tt }
+    record { store = c.in_ok-abbreviated.ensures.store; name = none; err = tt }

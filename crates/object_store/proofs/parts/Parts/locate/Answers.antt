@@ -1,7 +1,7 @@
 use Rattle.gix_hash.proofs.Std.{◌⊎◌, inr, IfErr-weaker}
 use Rattle.id_lookup.specs.Words.{first_byte_of, id_digits}
 use Rattle.object_store.specs.Stores.{HaveBuckets, IsLocateFault, IsStoreFault}
-use Rattle.object_store.proofs.PartNames.{have_read}
+use Rattle.object_store.proofs.PartIds.{have_read}
 use Rattle.object_store.proofs.parts.Parts.locate.Goals as goal
 
 pub returns-clause-locations : goal.returns-clause-locations

@@ -1,6 +1,6 @@
 use Rattle.gix_hash.proofs.Std.{◌∙◌, sym, err_from_is_err_and}
 use Rattle.id_lookup.proofs.Beginnings.{first_byte_of-begins}
-use Rattle.object_store.proofs.PartNames.{parts_for_more}
+use Rattle.object_store.proofs.PartIds.{parts_for_more}
 use Rattle.object_store.proofs.parts.Parts.take_part.Goals as goal
 
 pub returns-then-begins_with-clause-kept : goal.returns-then-begins_with-clause-kept

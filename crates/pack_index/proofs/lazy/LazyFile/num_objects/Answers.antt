@@ -1,9 +1,12 @@
-use Rattle.gix_hash.proofs.Std.{◌≡◌, ◌∙◌, length, arith, rules}
+use Rattle.gix_hash.proofs.Std.{◌≡◌, ◌∙◌, length, sym, arith, rules}
+use Rattle.pack_index.proofs.Counted.{length-ids_in}
 use Rattle.pack_index.proofs.Heads.{head_count}
+use Rattle.pack_index.proofs.Known.{by_bytes}
 use Rattle.pack_index.proofs.lazy.LazyFile.num_objects.Goals as goal
 
-pub returns-clause-bytes : goal.returns-clause-bytes
-returns-clause-bytes g c = λ bytes is.
-    let front = (c.self.invariant.1 bytes (rw (← c.self.view_is) at is)).0 in
+pub returns-clause-ids : goal.returns-clause-ids
+returns-clause-ids g c =
     let long : length c.self.inside.head ≡ 1032 = first_of (search rules, omega arith) in
-    c.num_objects.ensures ∙ head_count bytes c.self.inside.head front long
+    rw (← c.self.view_is) (by_bytes c.self.inside.kind _ _ (λ bytes is.
+    let inv = c.self.invariant.1 bytes is in
+    c.num_objects.ensures ∙ head_count bytes c.self.inside.head inv.0 long ∙ sym (length-ids_in c.self.inside.kind bytes inv.1)))

@@ -1,6 +1,6 @@
 use Rattle.gix_hash.proofs.Std.{◌≡◌, ◌∙◌, false, length, sym, arith, rules, err_from_is_err_and, false≢true, get_or-replicate}
 use Rattle.pack_index.specs.Format.{Each}
-use Rattle.pack_index.specs.Lazy.{Rises}
+use Rattle.pack_index.specs.Lazy.{Rises, fan_out}
 use Rattle.pack_index.proofs.Heads.{all_rise, begins, first_falls, head_fault, head_inside, tables_by_head}
 use Rattle.pack_index.proofs.lazy.LazyFile.open.Goals as goal
 
@@ -37,13 +37,13 @@ returns-clause-head g c =
 pub returns-clause-counts : goal.returns-clause-counts
 returns-clause-counts g c =
     let long : length c.read_exact_at.new.buf ≡ 1032 = first_of (search rules, omega arith) in
-    let rise : Each (Rises c.read_exact_at.new.buf) 256 = search rules in
+    let rise : Each (Rises (fan_out c.read_exact_at.new.buf)) 256 = search rules in
     λ bytes is. all_rise bytes c.read_exact_at.new.buf (c.in_ok-read_exact_at.ensures.bytes bytes is) long rise
 
 pub invariant_of-result : goal.invariant_of-result
 invariant_of-result g c =
     let long : length c.read_exact_at.new.buf ≡ 1032 = first_of (search rules, omega arith) in
-    let rise : Each (Rises c.read_exact_at.new.buf) 256 = search rules in (
+    let rise : Each (Rises (fan_out c.read_exact_at.new.buf)) 256 = search rules in (
       rise,
       λ bytes is.
           let front = c.in_ok-read_exact_at.ensures.bytes bytes is in

@@ -2,6 +2,7 @@ use Rattle.gix_hash.proofs.Std.{◌≡◌, ◌∙◌, ◌+◌, ◌*◌, ◌<◌,
 use Rattle.id_lookup.specs.Words.{Kind}
 use Rattle.pack_index.specs.Format.{num_objects, offset_table_start}
 use Rattle.pack_index.specs.Lazy.{LazyIndex}
+use Rattle.pack_index.proofs.Known.{by_bytes}
 use Rattle.pack_index.proofs.ReadOffsets.{word_inside, word_is}
 use Rattle.pack_index.proofs.lazy.LazyFile.read_offset_word.Goals as goal
 
@@ -18,11 +19,11 @@ returns-clause-word g c = λ bytes is.
 pub returns-in_err-read_exact_at-clause-err : goal.returns-in_err-read_exact_at-clause-err
 returns-in_err-read_exact_at-clause-err g c =
     let failed = err_from_is_err_and c.from_residual.result c.from_residual.ensures.1 in
-    rw (failed.1, failed.2) (λ bytes is.
+    rw (failed.1, failed.2) (by_bytes c.args.self.now.kind _ _ (λ bytes is.
     let inv = c.self.invariant.1 bytes (rw (← c.self.view_is) at is) in
     let whole : length c.self.inside.head ≡ 1032 = first_of (search rules, omega arith) in
     let low : c.args.at < num_objects c.self.inside.head = omega (arith, c.requires, ap (λ (f : LazyIndex). f.count) c.self.view_is) in
     let begins = ap (λ n. n + 4 * c.args.at) c.offset_table_start.ensures.start in
     subst (λ (f : LazyIndex). IsTrue f.can_fail) c.self.view_is
     (c.in_err-read_exact_at.ensures.err bytes (rw (← c.self.view_is) at is)
-    (word_inside c.self.inside.kind bytes c.self.inside.head c.args.at (c.offset_table_start.result + 4 * c.args.at) inv.0 whole inv.1 low begins)))
+    (word_inside c.self.inside.kind bytes c.self.inside.head c.args.at (c.offset_table_start.result + 4 * c.args.at) inv.0 whole inv.1 low begins))))

@@ -1,11 +1,8 @@
-use Rattle.gix_hash.proofs.Std.{◌≡◌, ◌∙◌, ◌≤◌, ℕ, Bool, List, true, false, inl, inr, length, get_or, sym, ap, subst, arith, IsTrue, cases_lt, err_from_is_err_and, get_or-set_other, slice_set}
-use Rattle.pack_index.specs.Format.{Each, names_in, num_objects}
-use Rattle.pack_index.specs.Lazy.{IfKnown, IsOrdered, LazyIndex}
+use Rattle.gix_hash.proofs.Std.{◌≡◌, ◌∙◌, ℕ, Bool, List, Some, true, false, inl, inr, get_or, option_map, sym, ap, subst, arith, IsTrue, cases_lt, err_from_is_err_and, get_or-set_other, slice_set}
+use Rattle.pack_index.specs.Format.{Each}
+use Rattle.pack_index.specs.Lazy.{IsOrdered, LazyIndex, seen, tables_in}
 use Rattle.pack_index.proofs.Buckets.{bucket_fault}
-use Rattle.pack_index.proofs.Counted.{length-names_in}
 use Rattle.pack_index.proofs.Parts.{whole_ordered, whole_part}
-use Rattle.pack_index.proofs.lazy.LazyFile.read_whole.Given.{Over}
-use Rattle.pack_index.proofs.lazy.LazyFile.read_whole.Goals.{After-run_of-run}
 use Rattle.pack_index.proofs.lazy.LazyFile.read_whole.Goals as goal
 
 -- one flag more
@@ -20,39 +17,29 @@ noted P flags n new each k low is =
       ]
     ]
 
-module _ (g : Over) (c : After-run_of-run g) where
-  inside : IfKnown (λ bytes. c.run_of-run.result.end ≤ num_objects bytes) c.args.self.now
-  inside bytes known = omega (arith, c.run_of-run.ensures.inside, c.num_objects-count.ensures.count, c.num_objects-count.ensures.bytes bytes known)
-
-  within : IfKnown (λ bytes. c.run_of-run.result.end ≤ length (names_in c.args.self.now.kind bytes)) c.args.self.now
-  within bytes known = omega (arith, inside bytes known, length-names_in c.args.self.now.kind bytes (c.num_objects-count.ensures.tables bytes known))
-
 pub returns-in_err-bucket-clause-err : goal.returns-in_err-bucket-clause-err
 returns-in_err-bucket-clause-err g c =
     let failed = err_from_is_err_and c.from_residual.result c.from_residual.ensures.1 in
-    let here = (goal.at.returns-in_err-bucket-clause-err g c).After-run_of-run in
     let run = c.run_of-run.ensures in
-    rw (failed.1, failed.2) (λ bytes known.
-    bucket_fault c.args.self.now.can_fail c.args.self.now.kind bytes c.args.byte c.run_of-run.result.start c.run_of-run.result.end _ c.ranges.byte.fits run.in_order
-    (inside g here bytes known) (run.start bytes known) (run.end bytes known) (c.in_err-bucket.ensures.err bytes known))
+    rw (failed.1, failed.2) (λ tables known.
+    bucket_fault c.args.self.now.can_fail tables c.args.byte c.run_of-run.result.start c.run_of-run.result.end _ c.ranges.byte.fits run.in_order
+    (run.ids tables known) (run.start tables known) (run.end tables known) (c.in_err-bucket.ensures.err tables known))
 
 pub invariant_of-self : goal.invariant_of-self
 invariant_of-self g c = (
   c.self.invariant.0,
   λ bytes is.
-      let here = (goal.at.invariant_of-self g c).After-run_of-run in
       let inv = c.self.invariant.1 bytes is in
       let run = c.run_of-run.ensures in
-      let known = sym (ap (λ (f : LazyIndex). f.content) c.self.view_is) ∙ is in
-      let ordered = whole_ordered c.args.self.now c.args.byte c.run_of-run.result.start c.run_of-run.result.end c.in_ok-bucket.bucket c.in_ok-bucket.ensures.ids run.in_order
-      bytes known (run.start bytes known) (run.end bytes known) (within g here bytes known) (c.is_sorted.ensures c.if-is_sorted.true) in
-      let same = ap (λ (f : LazyIndex). f.kind) c.self.view_is in
-      (inv.0, inv.1, inv.2, noted (IsOrdered c.self.inside.kind bytes) c.self.inside.ordered c.from.result (rw (c.from.ensures, same) ordered) inv.3),
+      let tables = tables_in c.self.inside.kind bytes in
+      let known : (seen c.args.self.now).tables ≡ Some tables = sym (ap (λ (f : LazyIndex). (seen f).tables) c.self.view_is) ∙ ap (option_map (tables_in c.self.inside.kind)) is in
+      let ordered = whole_ordered (seen c.args.self.now) c.args.byte c.run_of-run.result.start c.run_of-run.result.end c.in_ok-bucket.bucket c.in_ok-bucket.ensures.ids tables known
+      (run.start tables known) (run.end tables known) (run.ids tables known) (c.is_sorted.ensures c.if-is_sorted.true) in
+      (inv.0, inv.1, inv.2, noted (IsOrdered tables) c.self.inside.ordered c.from.result (rw c.from.ensures ordered) inv.3),
 )
 
 pub returns-clause-part : goal.returns-clause-part
 returns-clause-part g c = λ digits enough same.
-    let here = (goal.at.returns-clause-part g c).After-run_of-run in
     let run = c.run_of-run.ensures in
-    whole_part c.args.self.now digits c.run_of-run.result.start c.run_of-run.result.end c.in_ok-bucket.bucket (rw same c.in_ok-bucket.ensures.ids) run.in_order run.inside
-    enough (rw same c.ranges.byte.fits) (rw same run.start) (rw same run.end) (within g here)
+    whole_part (seen c.args.self.now) digits c.run_of-run.result.start c.run_of-run.result.end c.in_ok-bucket.bucket (rw same c.in_ok-bucket.ensures.ids) run.inside
+    enough (rw same c.ranges.byte.fits) (rw same run.start) (rw same run.end) run.ids

@@ -8,4 +8,4 @@ returns-clause-answered g c = of_ok _ _ c.write_lines.result c.write_lines.ensur
     let two : 2 ≤ asked.least = omega (arith, asked.enough) in
     of_kept _ _ c.write_lines.new.self.kept has (λ store is.
     asked_written at (g.R.Directories.answers asked.rt.now) known asked.directory.now directories objects alternates counted are asked.least two asked.question
-    c.args.answers _ _ _ _ _ _ _ _ _ _ low is))
+    c.args.wanted _ _ _ _ _ _ _ _ _ _ low is))

@@ -1,0 +1,6 @@
+use Rattle.directory_store.proofs.Damage.{damage_of}
+use Rattle.directory_store.proofs.packs.open_pack_index.Goals as goal
+
+pub returns-in-Err-open-clause-damage : goal.returns-in-Err-open-clause-damage
+returns-in-Err-open-clause-damage g c = λ is at known.
+    damage_of at c.args.kind c.args.path.now _ _ c.in-Err-open.error c.index.result (c.in-Ok.ensures.content at known) (c.in-Ok.ensures.read at known) c.in-Err-open.ensures.err c.index.ensures is

@@ -1,8 +1,0 @@
-use Rattle.gix_hash.proofs.Std.{◌≡◌, map, take, All}
-use Rattle.object_store.specs.Several.{IsLocated}
-use Rattle.object_store.proofs.parts.locate_first.Given as goal
-
-abbrev pub invariant-loop-id : goal.invariant-loop-id
-invariant-loop-id g l =
-    (l.parts ≡ l.fn.parts) × (map (λ located. located.id) l.located.items ≡ take l.id-index l.id-items)
-    × All (IsLocated (g.S.Store.view l.fn.parts.now) (g.S.StorePaths.loose_paths l.fn.parts.now)) l.located.items
