@@ -48,6 +48,7 @@ $(PROGRAMS): %: crates/%/out/built
 # If anything is missing, nothing is proved.
 needs:
 	@$(if $(UNBUILT),tools/needs make '$(CC)' python3)
+	@$(if $(filter dist,$(MAKECMDGOALS)),tools/needs 'make dist' cargo dpkg-deb)
 
 # rules CRATE: what is proved before it, and how it is made.
 define rules
@@ -88,7 +89,7 @@ install: $(PROGRAMS) lib
 install-lib: lib
 	tools/install --lib '$(DESTDIR)' '$(PREFIX)'
 
-dist: $(PROGRAMS) lib
+dist: needs $(PROGRAMS) lib
 	tools/dist
 
 uninstall:

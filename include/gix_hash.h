@@ -1,7 +1,7 @@
 /*
  * Git's object ids for C: SHA-1 and SHA-256 ids, prefixes of their hex digits, digests of bytes
- * and ids of objects, look-ups in sorted tables of digests, and pack indexes. Link libgix_hash;
- * docs/BINDINGS.md says how.
+ * and ids of objects, look-ups in sorted tables of digests, and pack indexes. Link libgix_hash, as by
+ * cc program.c $(pkg-config --cflags --libs gix_hash).
  *
  * A len is a number of bytes, a hex_len a number of hex digits, of which a byte has two. A position
  * counts from 0. A text is chars, of which each is a byte, with their len.
@@ -235,8 +235,8 @@ uint32_t gix_hash_check_sorted(uint32_t kind, const uint8_t *table, size_t len, 
 
 /* Finds the digests of a sorted table that begin with a prefix, in time logarithmic in len. If none
  * does, the run is empty, at the position where the prefix would be. If the table is not sorted, the
- * run is unspecified, but in range.
- * Returns GIX_HASH_OK, GIX_HASH_BAD_KIND, GIX_HASH_BAD_LENGTH or GIX_HASH_PREFIX_TOO_LONG. */
+ * run is unspecified, but in range. A part of a digest at the end is not read.
+ * Returns GIX_HASH_OK, GIX_HASH_BAD_KIND, GIX_HASH_BAD_LENGTH (of the prefix) or GIX_HASH_PREFIX_TOO_LONG. */
 GIX_HASH_READS(2, 3) GIX_HASH_READS(4) GIX_HASH_WRITES(5)
 uint32_t gix_hash_find(uint32_t kind, const uint8_t *table, size_t len, const gix_hash_prefix *prefix, gix_hash_run *run);
 

@@ -1,5 +1,5 @@
 """Ids, packs, pack indexes and stores that the tools make, by git or by hand, and what git says of stores. What is made by hand has
-empty objects: nothing is read of them but their names."""
+empty objects: nothing is read of them except their ids."""
 
 import bisect
 import hashlib

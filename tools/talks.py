@@ -1,4 +1,4 @@
-"""Inputs that wait for the answers of packtool, for tools/stores, also after its store has changed.
+"""Inputs that wait for the results of packtool, for tools/stores, also after its store has changed.
 
 A group of `TALKS` yields the names of its comparisons, each with what is wrong, if anything."""
 
@@ -14,7 +14,7 @@ from edges import LOCKED, NO_FILE, TOO_FEW, error_of
 from gitstore import DIGITS, SETTLED, add_objects, add_pack, add_repository, changed, plain_index, sorted_ids, write
 from probe import CLEAN, POWERLESS, difference, started
 
-# How long all answers to an input may take, in seconds.
+# How long all results of an input may take, in seconds.
 PATIENCE = 60
 # How many bytes a read of standard input takes at most: at first, after one that got as many, and then.
 READS = [1 << 14, 1 << 16, 1 << 18]
@@ -32,7 +32,7 @@ def talk(program, room, *words, around=(), store=("--objects", "objects"), **how
 
 
 def ask(child, given, wanted):
-    """Writes bytes, and returns what is wrong with the answer, of which not a byte is missing or too much, if anything."""
+    """Writes bytes, and returns what is wrong with the result, of which not a byte is missing or too much, if anything."""
     child.stdin.write(given)
     got = b""
     while len(got) < len(wanted) and (part := os.read(child.stdout.fileno(), 1 << 20)):
@@ -48,7 +48,7 @@ def answer_to(line, id):
 
 
 def exchanges(program, room):
-    """Inputs of exactly as many bytes as a read takes, each answered before the next comes, in lines of each length."""
+    """Inputs of exactly as many bytes as a read takes, each with its result before the next comes, in lines of each length."""
     add_repository(room, loose=[made.LOOSE])
     for size in (1, 2, 3, 4, 5, 9, 41):
         with talk(program, room, "find") as child:
@@ -94,13 +94,13 @@ def ends(child, given, wanted):
 
 
 def locked_later(program, room):
-    """What may not be looked at any more after two questions: the error has its path, and the status is 2."""
+    """What may not be looked at any more after two requests: the error has its path, and the status is 2."""
     for name, link, asked, path in [
         ("pack", "pack", "4b", "objects/pack"),
         ("a fan-out directory", "4b", "4b", "objects/4b"),
         ("a fan-out directory that was asked for before", "4b", "00", "objects/4b"),
         ("a list of alternates", "info", "4b", f"{room}/a list of alternates/objects/info/alternates"),
-        ("a missing list of alternates", "info", "4b", "objects/info/alternates"),
+        ("a missing list of alternates", "info", "4b", f"{room}/a missing list of alternates/objects/info/alternates"),
     ]:
         place, objects = room / name, room / name / "objects"
         add_objects(objects, [made.LOOSE, "0" * 40], packs=[[made.BOTH]])
@@ -121,7 +121,7 @@ def locked_later(program, room):
 
 
 def mended_later(program, room):
-    """What the directories do not show, after two questions: a damaged pack index that is mended in place, and a pack that is a link to
+    """What the directories do not show, after two requests: a damaged pack index that is mended in place, and a pack that is a link to
     nothing and then to a file; a pack in the ninth alternate; and a link to nothing that is asked for later."""
     index, whole = room / "objects" / "pack" / "x.idx", plain_index([made.BOTH])
     found, missing = f"4b {made.BOTH}\n", "4b missing\n"
@@ -164,7 +164,7 @@ def mended_later(program, room):
 
 
 def few_files(program, room):
-    """Questions to a packtool that may open as many files as there are packs, and none more; or fewer, so that 64 stay open, or none, and
+    """Requests to a packtool that may open as many files as there are packs, and none more; or fewer, so that 64 stay open, or none, and
     the others are opened again for ids that are far from the beginning of their indexes."""
     write(room / "objects" / "00" / "none")
     ids = list(sorted_ids(1000, [20]))
@@ -183,7 +183,7 @@ def few_files(program, room):
 
 
 def out_of_order(program, room):
-    """Questions for each of many ids with one first byte, one after the other, of which two are in each other's place in a pack index,
+    """Requests for each of many ids with one first byte, one after the other, of which two are in each other's place in a pack index,
     and of which none are, also after one index has taken the place of another that has its size and time: each id is found each time."""
     ids = sorted({f"4b{id[2:]}" for id in sorted_ids(300, [20])})
     swapped = [*ids[:10], ids[200], *ids[11:200], ids[10], *ids[201:]]
@@ -206,7 +206,7 @@ def out_of_order(program, room):
 
 
 def each_byte(program, room):
-    """Questions for which the loose objects of all first bytes are listed, as one comes with every 16th first byte."""
+    """Requests for which the loose objects of all first bytes are listed, as one comes with every 16th first byte."""
     wrong = None
     for byte in range(256):
         (room / "objects" / f"{byte:02x}").mkdir(parents=True)

@@ -6,4 +6,6 @@ path, *prefixes = sys.argv[1:]
 with Store(path) as store:
     for prefix, ids in store.find_many(prefixes):
         for id in ids:
-            print(prefix, store.abbreviate(id, least=7), *store.locate(id)[0][1:])
+            short = store.abbreviate(id, least=7)
+            for place in store.locate(id):
+                print(prefix, short, place.path, "" if place.offset is None else place.offset)

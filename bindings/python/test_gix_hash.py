@@ -177,7 +177,6 @@ class Bindings(unittest.TestCase):
         for name, path, why in (
             ("GIX_HASH_LIB", file, None),
             ("GIX_HASH_LIB", os.path.dirname(file), None),
-            ("GIX_HASH_LIBRARY", file, None),
             ("GIX_HASH_LIB", "/nowhere.so", "/nowhere.so"),
             ("GIX_HASH_LIB", "/", "/: it has no libgix_hash.so"),
             ("GIX_HASH_LIB", "libc.so.6", "gix_hash_"),

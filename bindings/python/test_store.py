@@ -132,7 +132,7 @@ class Stores(unittest.TestCase):
             self.assertEqual([(name, str(id)) for name, id in store.abbreviations(least)], wanted)
         longest = sorted(ids, key=lambda id: -len(names[id]))[: size // 4]
         for id, least in [*itertools.product(longest, range(4, 13)), *((id, 0) for id in rng.sample(ids, min(size, len(ids))))]:
-            self.assertEqual(store.abbreviate(Id(id), least), id[: max(least, len(names[id]))])
+            self.assertEqual({store.abbreviate(it, least) for it in (id, Id(id))}, {id[: max(least, len(names[id]))]})
         prefixes = [*some_prefixes(ids, 20 * size, 2)]
         given = [rng.choice((str, Prefix))(prefix) for prefix in prefixes] + [Id(id) for id in rng.sample(ids, size)]
         found = {prefix: beginning_with(ids, str(prefix)) for prefix in given}
@@ -744,8 +744,10 @@ class Stores(unittest.TestCase):
         for wrong in ids[0], b"57e0":
             with self.assertRaisesRegex(TypeError, "expected prefixes"):
                 next(store.find_many(wrong))
-        for wrong in (None, ids[0], Prefix(ids[0])):
+        for wrong in (None, 7, Prefix(ids[0])):
             self.assertRaises(TypeError, store.abbreviate, wrong)
+        for wrong in ("", ids[0][:9], ids[0] + "\n"):
+            self.assertRaises(Error, store.abbreviate, wrong)
         for id in Id("1" * 40), Id("1" * 64):
             self.assertRaises(Missing, store.abbreviate, id)
         for call in (store.abbreviations, lambda least: store.abbreviate(Id(ids[0]), least)):
@@ -753,7 +755,7 @@ class Stores(unittest.TestCase):
                 self.assertRaises(TypeError, lambda call=call, least=least: list(call(least)))
             for least, same in (-9, 4), (3, 4), (41, 40), (10**9, 40):
                 self.assertEqual([*call(least)], [*call(same)])
-        self.assertEqual((store.abbreviate(Id(ids[0]), 40), store.find(ids[0].upper())), (ids[0], [Id(ids[0])]))
+        self.assertEqual((store.abbreviate(ids[0].upper(), 40), store.find(ids[0].upper())), (ids[0], [Id(ids[0])]))
         self.assertRaises(TypeError, store.find_many(3).__next__)
         self.assertRaisesRegex(TypeError, "^a Store cannot be pickled", pickle.dumps, store)
         self.assertEqual(repr(store), f"Store('{bare}', 'sha1')")

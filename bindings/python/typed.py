@@ -24,6 +24,7 @@ def digests(path: Path) -> List[Id]:
         hasher.update(mapped)
         ids = [hasher.copy().id(), Id.of_object(Kind.SHA1, "blob", mapped), Id.digest("sha256", memoryview(mapped))]
     Id.digest("sha1", "a text")  # type: ignore[arg-type]
+    Id.digest("md5", b"")  # type: ignore[arg-type]
     Id(b"a digest")  # type: ignore[arg-type]
     make = partial(Hasher, Kind.SHA1)
     return [*ids, Id.from_bytes(make(b"").digest()), Id.from_bytes(hashlib.sha1(b"").digest()), Id.null("sha256")]
@@ -36,7 +37,7 @@ def tables(index: PackIndex, table: SortedDigests) -> Dict[Id, int]:
     prefix = Prefix(f"{id:.7}")
     index.find(7)  # type: ignore[arg-type]
     found = {index[at].id: index[at].offset for at in index.find(prefix)}
-    return found if prefix.cmp(id) == 0 and id in index and "4b" in table else {it.id: it.crc for it in [first, *some]}
+    return found if prefix.cmp(id) == 0 and id in index and "4b" in index and "4b" in table else {it.id: it.crc for it in [first, *some]}
 
 
 def stores(path: Path, prefixes: List[str]) -> Dict[str, List[Location]]:
@@ -45,11 +46,11 @@ def stores(path: Path, prefixes: List[str]) -> Dict[str, List[Location]]:
         names: Dict[Id, str] = {id: name for name, id in store.abbreviations(least=7)}
         found = {prefix: store.locate(ids[0]) for prefix, ids in store.find_many(prefixes) if ids}
         try:
-            names[store.resolve("4b82")] = store.abbreviate(ids[0], least=7)
+            names[store.resolve("4b82")] = store.abbreviate(str(ids[0]), least=7)
         except Ambiguous as error:
             ids += error.ids
         except Missing as error:
             print(error, store.skipped, store.kind is Kind.SHA1)
         offset: Optional[int] = found["4b82"][0].offset
-        store.abbreviate("4b82")  # type: ignore[arg-type]
+        store.abbreviate(0x4B82)  # type: ignore[arg-type]
         return found if offset is None else {}

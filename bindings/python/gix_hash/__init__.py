@@ -25,7 +25,7 @@ import re
 import sys
 import threading
 from collections.abc import Iterator, Sequence
-from typing import TYPE_CHECKING, Any, Dict, List, NamedTuple, Optional, Tuple, Type, TypeVar, Union, overload
+from typing import TYPE_CHECKING, Any, Dict, List, Literal, NamedTuple, Optional, Tuple, Type, TypeVar, Union, overload
 
 __all__ = [
     "Ambiguous", "Buffer", "Code", "Entry", "Error", "Hasher", "Id", "Kind", "Location", "Missing", "ObjectType", "PackIndex",
@@ -34,6 +34,8 @@ __all__ = [
 __version__ = "0.6.0"
 # What has bytes. (Other objects that do, as an array of bytes, are taken too.)
 Buffer = Union[bytes, bytearray, memoryview, mmap.mmap]
+# The name of a kind.
+_KindName = Literal["sha1", "sha256"]
 _T = TypeVar("_T")
 _M = TypeVar("_M", "Kind", "ObjectType")
 
@@ -174,8 +176,7 @@ for _name, _listed in re.findall(r"struct (\w+) { (.*?); }", _DECLARED):
 
 def _path() -> str:
     """Where the library is. It is installed under the first two numbers of its version."""
-    # (the second name is that of earlier versions)
-    given = os.environ.get("GIX_HASH_LIB") or os.environ.get("GIX_HASH_LIBRARY")
+    given = os.environ.get("GIX_HASH_LIB")
     beside = os.path.dirname(os.path.abspath(__file__))
     for path in (given, os.path.join(given or beside, "libgix_hash.so")):
         if path and os.path.isabs(path) and os.path.isfile(path):
@@ -306,36 +307,36 @@ class Id:
         return made
 
     @classmethod
-    def digest(cls, kind: Union[Kind, str], data: Buffer) -> "Id":
+    def digest(cls, kind: Union[Kind, _KindName], data: Buffer) -> "Id":
         """The digest of bytes."""
         made, (held, *given) = _Id(), _bytes(data)
         _check(_lib.gix_hash_digest(_kind(kind), *given, made))
         return cls._of(made)
 
     @classmethod
-    def of_object(cls, kind: Union[Kind, str], object_type: Union[ObjectType, str], data: Buffer) -> "Id":
+    def of_object(cls, kind: Union[Kind, _KindName], object_type: Union[ObjectType, str], data: Buffer) -> "Id":
         """The id of an object, as git hash-object computes it. Whether the bytes are such an object is not checked."""
         made, (held, *given) = _Id(), _bytes(data)
         _check(_lib.gix_hash_object_id(_kind(kind), _member(ObjectType, object_type), *given, made))
         return cls._of(made)
 
     @classmethod
-    def null(cls, kind: Union[Kind, str]) -> "Id":
+    def null(cls, kind: Union[Kind, _KindName]) -> "Id":
         """The id whose digits are all zero."""
         return cls._named(_lib.gix_hash_id_null, kind)
 
     @classmethod
-    def empty_blob(cls, kind: Union[Kind, str]) -> "Id":
+    def empty_blob(cls, kind: Union[Kind, _KindName]) -> "Id":
         """The id of the blob with no bytes."""
         return cls._named(_lib.gix_hash_id_empty_blob, kind)
 
     @classmethod
-    def empty_tree(cls, kind: Union[Kind, str]) -> "Id":
+    def empty_tree(cls, kind: Union[Kind, _KindName]) -> "Id":
         """The id of the tree with no entries."""
         return cls._named(_lib.gix_hash_id_empty_tree, kind)
 
     @classmethod
-    def _named(cls, call: Any, kind: Union[Kind, str]) -> "Id":
+    def _named(cls, call: Any, kind: Union[Kind, _KindName]) -> "Id":
         made = _Id()
         _check(call(_kind(kind), made))
         return cls._of(made)
@@ -394,13 +395,13 @@ class Hasher:
     __slots__ = ("_hasher", "_lock")
     block_size = 64
 
-    def __init__(self, kind: Union[Kind, str], data: Buffer = b"") -> None:
+    def __init__(self, kind: Union[Kind, _KindName], data: Buffer = b"") -> None:
         self._hasher, self._lock = _Hasher(), threading.Lock()
         _check(_lib.gix_hash_hasher_new(_kind(kind), self._hasher))
         self.update(data)
 
     @classmethod
-    def for_object(cls, kind: Union[Kind, str], object_type: Union[ObjectType, str], length: int) -> "Hasher":
+    def for_object(cls, kind: Union[Kind, _KindName], object_type: Union[ObjectType, str], length: int) -> "Hasher":
         """A hasher of an object, which has been fed what git hash-object hashes before the object's bytes. Feed it the bytes,
         and id() is the id of the object. No call checks that they are as many as the length says. If they are not, the digest
         is not the id of an object."""
@@ -509,6 +510,10 @@ class Entry(NamedTuple):
     offset: int
     crc: int
 
+    def __eq__(self, other: object) -> bool:
+        # (with this, checkers of types take an id or a text for what may be in a list of entries)
+        return tuple.__eq__(self, other)
+
 
 class _Table(Sequence[_T]):
     """What lists of ids share: their bytes, the library's call that finds a prefix, and the classes of what can be in one."""
@@ -516,7 +521,7 @@ class _Table(Sequence[_T]):
     _call: Any
     _items: Tuple[Type[Any], ...] = (Id,)
 
-    def _hold(self, kind: Union[Kind, str], data: Buffer) -> None:
+    def _hold(self, kind: Union[Kind, _KindName], data: Buffer) -> None:
         self._kind = _kind(kind)
         self._data, *given = _bytes(data)
         # What each call begins with.
@@ -598,7 +603,7 @@ class SortedDigests(_Table[Id]):
 
     _call = _lib.gix_hash_find
 
-    def __init__(self, kind: Union[Kind, str], table: Buffer):
+    def __init__(self, kind: Union[Kind, _KindName], table: Buffer):
         self._hold(kind, table)
         at, self._size = ctypes.c_size_t(), self._kind.len_in_bytes
         _check(_lib.gix_hash_check_sorted(*self._given, at), at.value)
@@ -618,7 +623,7 @@ class PackIndex(_Table[Entry]):
     _call = _lib.gix_hash_pack_find
     _items = (Entry, Id)
 
-    def __init__(self, kind: Union[Kind, str], data: Buffer):
+    def __init__(self, kind: Union[Kind, _KindName], data: Buffer):
         self._hold(kind, data)
         detail = ctypes.c_uint64()
         _check(_lib.gix_hash_pack_check(*self._given, detail), detail.value)

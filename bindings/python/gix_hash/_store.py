@@ -16,7 +16,7 @@ import weakref
 from collections import deque
 from typing import Any, Deque, Dict, Iterable, Iterator, List, NamedTuple, Optional, Set, Tuple, TypeVar, Union, cast
 
-from gix_hash import _HEADS, Code, Error, Id, Kind, Prefix, __version__, _check, _kind, _only, _shown, _wrong
+from gix_hash import _HEADS, Code, Error, Id, Kind, Prefix, __version__, _check, _kind, _KindName, _only, _shown, _wrong
 
 __all__ = ["Ambiguous", "Location", "Missing", "SkippedWarning", "Store", "StoreError"]
 
@@ -317,7 +317,7 @@ class Store(contextlib.AbstractContextManager["Store"]):
     Threads may share a store, which does one look-up of each kind at a time. A forked process may go on with it.
     """
 
-    def __init__(self, path: "Union[str, bytes, os.PathLike[Any], None]" = None, kind: "Union[Kind, str, None]" = None) -> None:
+    def __init__(self, path: "Union[str, bytes, os.PathLike[Any], None]" = None, kind: "Union[Kind, _KindName, None]" = None) -> None:
         self._closed, self._program = False, _program()
         self._options = [] if kind is None else ["--kind", str(_kind(kind))]
         try:
@@ -473,11 +473,12 @@ class Store(contextlib.AbstractContextManager["Store"]):
         """The number of digits that abbreviations have at least, if that many are asked for."""
         return min(max(4, operator.index(least)), 2 * self._kind.len_in_bytes)
 
-    def abbreviate(self, id: Id, least: int = 4) -> str:
+    def abbreviate(self, id: Union[Id, str], least: int = 4) -> str:
         """The shortest prefix of an id of the store, of `least` digits or more, with which no other id begins. If `least` is below
         4, 4 is used, and if it is more than an id has, as many as that. The error is Missing if the store does not have the id."""
+        id = Id(id) if isinstance(id, str) else _only(Id, id)
         least = self._digits(least)
-        printed = self._ask("abbreviate", str(id))[0] if _only(Id, id).kind is self._kind else " "
+        printed = self._ask("abbreviate", str(id))[0] if id.kind is self._kind else " "
         if " " in printed:
             raise self._missing(id)
         return str(id)[: max(len(printed), least)]

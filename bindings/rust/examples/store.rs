@@ -7,13 +7,12 @@ fn main() -> Result<(), Box<dyn std::error::Error>> {
     for found in store.find_many(prefixes)? {
         let (prefix, ids) = found?;
         for id in ids {
-            let location = &store.locate(&id.into())?[0];
-            println!(
-                "{prefix} {} {} {:?}",
-                store.abbreviate(&id, 7)?,
-                location.path.display(),
-                location.offset
-            );
+            let short = store.abbreviate(&id, 7)?;
+            for place in store.locate(&id.into())? {
+                let offset = place.offset.map(|offset| offset.to_string());
+                let path = place.path.display();
+                println!("{prefix} {short} {path} {}", offset.unwrap_or_default());
+            }
         }
     }
     Ok(())
