@@ -47,8 +47,8 @@ $(PROGRAMS): %: crates/%/out/built
 
 # If anything is missing, nothing is proved.
 needs:
-	@$(if $(UNBUILT),tools/needs make '$(CC)' python3)
-	@$(if $(filter dist,$(MAKECMDGOALS)),tools/needs 'make dist' cargo dpkg-deb)
+	@$(if $(UNBUILT),tools/needs make rt '$(CC)' python3)
+	@$(if $(filter dist,$(MAKECMDGOALS)),tools/needs 'make dist' cargo dpkg-deb && tools/dist --ready)
 
 # rules CRATE: what is proved before it, and how it is made.
 define rules
