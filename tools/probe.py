@@ -212,10 +212,10 @@ def room_with(crates, sources):
         yield room
 
 
-def compiled(room):
-    """Compiles the program with all crates below it, and proves nothing. Returns the status, the output, and its
+def compiled(room, *words, given=b""):
+    """Compiles the program with all crates below it, proves nothing, and runs it. Returns the status, the output, and its
     errors, each with its file and line."""
-    output, _, status = ran("rt", "try", cwd=room / "crates" / PROGRAM, seconds=SHORT, stderr=STDOUT)
+    output, _, status = ran("rt", "try", "--", *words, cwd=room / "crates" / PROGRAM, given=given, seconds=SHORT, stderr=STDOUT)
     return status, output, [(file, int(line), name) for file, line, name in ERROR.findall(output)]
 
 
