@@ -225,11 +225,12 @@ def print_end(output):
 
 
 def programs_given(number):
-    """The paths of the programs that are this program's first words, that many. It ends with status 2 if they are not there, or if it has
-    words and takes none."""
+    """The paths of the programs that are this program's first words, that many. It ends with status 2 if they are not there, if one is a
+    script at the top, which would build the program, or if it has words and takes none."""
     paths = [str(Path(word).resolve()) for word in sys.argv[1 : 1 + number]]
-    if len(paths) < number or sys.argv[1:] and not number or not all(Path(path).is_file() and os.access(path, os.X_OK) for path in paths):
-        about = ": the paths of built programs" if number else ""
+    are_there = all(Path(path).is_file() and os.access(path, os.X_OK) and Path(path).parent != ROOT for path in paths)
+    if len(paths) < number or sys.argv[1:] and not number or not are_there:
+        about = ": the paths of built programs, such as crates/packtool/out/packtool" if number else ""
         print(f"usage: tools/{Path(sys.argv[0]).name}{' PROGRAM' * number}{about}", file=sys.stderr)
         sys.exit(2)
     return paths
