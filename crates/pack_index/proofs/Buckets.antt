@@ -6,7 +6,7 @@ use Rattle.id_lookup.proofs.FilterCounted.{filter_counted}
 use Rattle.id_lookup.proofs.FirstByteCounts.{count_by-below_0, count_by-up_to, up_to_step}
 use Rattle.id_lookup.proofs.PartsInOrder.{below-next, part-run}
 use Rattle.pack_index.specs.Format.{IsPackIndex, crc_table_start, digests_in, ids_in}
-use Rattle.pack_index.specs.Lazy.{HasBucket, HaveRightCounts, HaveFirstByte, HaveIds, IsBucketFault, IsRunFault, IsReadOrMemory, Tables, bucket_start, counted_with, fan_out, tables_in}
+use Rattle.pack_index.specs.Lazy.{HasBucket, HaveRightCounts, HaveFirstByte, IsBucketFault, IsRunFault, IsReadOrMemory, Tables, bucket_start, counted_with, fan_out, tables_in}
 use Rattle.pack_index.specs.declared.lazy_error.LazyError.{LazyError}
 use Rattle.pack_index.specs.declared.lazy_error.LazyError.TheVariants.{Read, Memory, WrongCount}
 use Rattle.pack_index.proofs.Counted.{as_many, digest_digits, length-digests_in}
@@ -34,12 +34,12 @@ digest_in kind from count k bytes part d is long low =
     digest_digits kind part k d (omega (arith, all, low)) ∙ ap (λ (xs : List ℕ). digits_of (take n (drop (n * k) xs))) is
     ∙ ap digits_of (part_of_part bytes n (n * k) (n * count) from (omega (arith, mul-le-mul_left n next)))
 
--- an id is in the bytes of its index
-pub id_fits : (kind : Kind) (bytes : List ℕ) (at : ℕ) → HaveIds kind bytes (at + 1) → 1032 + byte_len_of kind * at + byte_len_of kind ≤ length bytes
-id_fits Sha1 bytes at ids = omega (arith, ids.tables.fits, ids.inside)
-id_fits Sha256 bytes at ids = omega (arith, ids.tables.fits, ids.inside)
+-- some of the ids of a table are in it
+pub run_fits : (kind : Kind) (first count at many : ℕ) → at + many ≤ count → first + byte_len_of kind * at + byte_len_of kind * many ≤ first + byte_len_of kind * count
+run_fits Sha1 first count at many inside = omega (arith, inside)
+run_fits Sha256 first count at many inside = omega (arith, inside)
 
--- it has eight bytes and more
+-- an id has eight bytes and more
 pub eight : (kind : Kind) → 8 ≤ byte_len_of kind
 eight Sha1 = omega arith
 eight Sha256 = omega arith

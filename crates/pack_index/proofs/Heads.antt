@@ -1,24 +1,28 @@
 -- The numbers in the head of a pack index are those of all its bytes.
-use Rattle.gix_hash.proofs.Std.{◌≡◌, ℕ, zero, suc, ◌+◌, ◌-◌, ◌*◌, ◌<◌, ◌≤◌, List, [], ◌∷◌, length, get_or, take, drop, refl, sym, ap, ◌∙◌, arith, zero-add, get_or-take, get_or-drop}
+use Rattle.gix_hash.proofs.Std.{◌≡◌, ℕ, zero, suc, ◌+◌, ◌-◌, ◌*◌, ◌<◌, ◌≤◌, List, [], ◌∷◌, length, get_or, slice_index, take, drop, refl, sym, ap, ◌∙◌, arith, zero-add, get_or-take, get_or-drop}
 use Rattle.std.specs.Int.{from_be_bytes, w32}
-use Rattle.id_lookup.specs.Words.{Kind, Sha1, Sha256, byte_len_of}
-use Rattle.pack_index.specs.Format.{BeginsIndex, Each, FillsBytes, HasHead, HasTables, IsFirstNot, IsHeadFault, long_table_start, min_len, ids_start, num_objects, offset_table_start, other_than, word_at}
+use Rattle.id_lookup.specs.Words.{Kind, Sha1, Sha256}
+use Rattle.pack_index.specs.Format.{BeginsIndex, Each, FillsBytes, HasHead, HasTables, IsFirstNot, IsHeadFault, min_len, num_objects, other_than, word_at}
 use Rattle.pack_index.specs.Lazy.{Rises, bucket_start, fan_out}
 use Rattle.pack_index.specs.declared.error.Error.{Error}
 use Rattle.pack_index.specs.declared.error.Error.TheVariants.{OtherKind, TooShort, Version1, BadMagic, BadVersion, WrongLength}
 use Rattle.streams.specs.Streams.{IsReadAt}
 
--- a number in bytes that were read
-pub word_within : (bytes : List ℕ) (at : ℕ) (found : List ℕ) → IsReadAt bytes at found → (k : ℕ) → k + 4 ≤ length found → word_at found k ≡ word_at bytes (at + k)
-unfolding word_at
-word_within bytes at found read k low =
+-- a byte of bytes that were read
+pub byte_within : (bytes : List ℕ) (at : ℕ) (found : List ℕ) → IsReadAt bytes at found → (k : ℕ) → k < length found → slice_index found k ≡ slice_index bytes (at + k)
+byte_within bytes at found read k low =
     let n = length found in
     let size : at + n - at ≡ n = omega arith in
     let is : found ≡ take n (drop at bytes) = read.same ∙ ap (λ m. take m (drop at bytes)) size in
-    let byte : (j there : ℕ) → j < n → at + j ≡ there → get_or found j 0 ≡ get_or bytes there 0 =
-    λ j there low same. ap (λ (xs : List ℕ). get_or xs j 0) is ∙ get_or-take n (drop at bytes) j 0 low ∙ get_or-drop at bytes j 0 ∙ ap (λ m. get_or bytes m 0) same in
-    let at_byte : (j : ℕ) → j < 4 → get_or found (k + j) 0 ≡ get_or bytes (at + k + j) 0 = λ j less. byte (k + j) (at + k + j) (omega arith) (omega arith) in
-    (λ i. from_be_bytes w32 (byte k (at + k) (omega arith) refl i ∷ at_byte 1 (omega arith) i ∷ at_byte 2 (omega arith) i ∷ at_byte 3 (omega arith) i ∷ []))
+    ap (λ (xs : List ℕ). get_or xs k 0) is ∙ get_or-take n (drop at bytes) k 0 low ∙ get_or-drop at bytes k 0
+
+-- a number in them
+pub word_within : (bytes : List ℕ) (at : ℕ) (found : List ℕ) → IsReadAt bytes at found → (k : ℕ) → k + 4 ≤ length found → word_at found k ≡ word_at bytes (at + k)
+unfolding word_at
+word_within bytes at found read k low =
+    let byte : (j : ℕ) → j < 4 → get_or found (k + j) 0 ≡ get_or bytes (at + k + j) 0 =
+    λ j less. byte_within bytes at found read (k + j) (omega arith) ∙ ap (λ m. get_or bytes m 0) (omega arith) in
+    (λ i. from_be_bytes w32 (byte_within bytes at found read k (omega arith) i ∷ byte 1 (omega arith) i ∷ byte 2 (omega arith) i ∷ byte 3 (omega arith) i ∷ []))
 
 module _ (bytes head : List ℕ) (front : IsReadAt bytes 0 head) (long : length head ≡ 1032) where
   pub head_word : (at : ℕ) → at + 4 ≤ 1032 → word_at head at ≡ word_at bytes at
@@ -44,13 +48,6 @@ module _ (bytes head : List ℕ) (front : IsReadAt bytes 0 head) (long : length 
     λ b less. omega (arith, before b less, start_in_head b (omega (arith, less, low)), end_in_head b (omega (arith, less, low))),
     λ is. falls (omega (arith, is, start_in_head byte low, end_in_head byte low)),
   )
-
-  -- where the offsets and the 8-byte offsets begin
-  pub offsets_in_head : (kind : Kind) → offset_table_start kind head ≡ offset_table_start kind bytes
-  offsets_in_head kind = ap (λ n. ids_start + byte_len_of kind * n + 4 * n) head_count
-
-  pub long_in_head : (kind : Kind) → long_table_start kind head ≡ long_table_start kind bytes
-  long_in_head kind = ap (λ n. ids_start + byte_len_of kind * n + 4 * n + 4 * n) head_count
 
   -- what is said of the head and the length holds of the bytes
   pub begins : (kind : Kind) (len : ℕ) → len ≡ length bytes → BeginsIndex kind head len → HasHead kind bytes

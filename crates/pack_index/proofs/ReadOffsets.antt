@@ -1,23 +1,29 @@
 -- The offset of an object, by what was read of it.
 use Rattle.gix_hash.proofs.Std.{◌≡◌, ℕ, ◌+◌, ◌-◌, ◌*◌, ◌^◌, ◌<◌, ◌≤◌, inl, inr, None, Some, List, length, refl, sym, ap, ◌∙◌, arith, cases_lt, le-leb, le-ltb, lt-leb, lt-ltb}
-use Rattle.id_lookup.specs.Words.{Kind}
-use Rattle.pack_index.specs.Format.{HasOffset, HasTables, long_entry, long_table_start, long_word, num_objects, offset_in, offset_table_start, offset_word, tables_end, word_at}
+use Rattle.id_lookup.specs.Words.{Kind, byte_len_of}
+use Rattle.pack_index.specs.Format.{HasOffset, HasTables, ids_start, long_entry, long_table_start, long_word, num_objects, offset_in, offset_table_start, offset_word, tables_end, word_at}
 use Rattle.pack_index.specs.Lazy.{offset_at}
-use Rattle.pack_index.proofs.Heads.{head_count, offsets_in_head, word_within}
+use Rattle.pack_index.proofs.Heads.{word_within}
 use Rattle.streams.specs.Streams.{IsReadAt}
 
--- the word that was read is that of the id
-pub word_is : (kind : Kind) (bytes head short : List ℕ) (at from : ℕ) → IsReadAt bytes 0 head → length head ≡ 1032 → from ≡ offset_table_start kind head + 4 * at
-    → IsReadAt bytes from short → length short ≡ 4 → word_at short 0 ≡ offset_word kind bytes at
-word_is kind bytes head short at from front whole begins read four =
-    let same : from + 0 ≡ offset_table_start kind bytes + 4 * at = omega (arith, begins, offsets_in_head bytes head front whole kind) in
-    word_within bytes from short read 0 (omega (arith, four)) ∙ ap (word_at bytes) same
+-- by the head, which has the number of objects that the bytes have
+module _ (kind : Kind) (bytes head : List ℕ) (count : num_objects head ≡ num_objects bytes) where
+  offsets_start : offset_table_start kind head ≡ offset_table_start kind bytes
+  offsets_start = ap (λ n. ids_start + byte_len_of kind * n + 4 * n) count
 
--- and it is in the bytes
-pub word_inside : (kind : Kind) (bytes head : List ℕ) (at from : ℕ) → IsReadAt bytes 0 head → length head ≡ 1032 → HasTables kind bytes → at < num_objects head
-    → from ≡ offset_table_start kind head + 4 * at → from + 4 ≤ length bytes
-word_inside kind bytes head at from front whole tables low begins =
-    omega (arith, low, begins, tables.fits, offsets_in_head bytes head front whole kind, head_count bytes head front whole)
+  pub longs_start : long_table_start kind head ≡ long_table_start kind bytes
+  longs_start = ap (λ n. ids_start + byte_len_of kind * n + 4 * n + 4 * n) count
+
+  -- the word that was read is that of the id
+  pub word_is : (short : List ℕ) (at from : ℕ) → from ≡ offset_table_start kind head + 4 * at → IsReadAt bytes from short → length short ≡ 4
+      → word_at short 0 ≡ offset_word kind bytes at
+  word_is short at from begins read four =
+      let same : from + 0 ≡ offset_table_start kind bytes + 4 * at = omega (arith, begins, offsets_start) in
+      word_within bytes from short read 0 (omega (arith, four)) ∙ ap (word_at bytes) same
+
+  -- and it is in the bytes
+  pub word_inside : (at from : ℕ) → HasTables kind bytes → at < num_objects head → from ≡ offset_table_start kind head + 4 * at → from + 4 ≤ length bytes
+  word_inside at from tables low begins = omega (arith, low, begins, tables.fits, offsets_start, count)
 
 module _ (kind : Kind) (bytes : List ℕ) (at word : ℕ) (is : word ≡ offset_word kind bytes at) where
   pub short_offset : word < long_word → offset_at kind bytes at ≡ Some word

@@ -3,10 +3,13 @@ use Rattle.std.specs.Prelude.{◌≡◌, ℕ, zero, suc, ◌+◌, ◌-◌, ◌*�
 use Rattle.std.specs.List.{position, starts_with}
 use Rattle.std.specs.Option.{ForSome}
 use Rattle.id_digits.specs.Digits.{word}
-use Rattle.id_lookup.specs.Words.{IsSortedIds, Kind, first_byte_of, has_first_byte, is_up_to, matches}
+use Rattle.id_lookup.specs.Words.{IsSortedIds, Kind, byte_len_of, first_byte_of, has_first_byte, is_up_to, matches}
 use Rattle.id_lookup.specs.declared.search.Run.{Run}
-use Rattle.pack_index.specs.Format.{Each, HasHead, HasTables, IsFirstNot, IsHeadFault, is_long, long_entry, ids_in, num_objects, offset_in, tables_end, word_at}
+use Rattle.pack_index.specs.Format.{Each, HasHead, HasTables, IsFirstNot, IsHeadFault, digests_in, is_long, long_entry, ids_in, ids_start, num_objects, offset_in, tables_end, word_at}
 use Rattle.pack_index.specs.declared.front.Front.{Front}
+use Rattle.pack_index.specs.declared.layout.IdTable.{IdTable}
+use Rattle.pack_index.specs.declared.layout.Layout.{Layout}
+use Rattle.pack_index.specs.declared.layout.Layout.TheVariants.{Index, Multi}
 use Rattle.pack_index.specs.declared.lazy_error.LazyError.{LazyError}
 use Rattle.pack_index.specs.declared.lazy_error.LazyError.TheVariants.{Read, Memory, Head, CountsFall, WrongCount, NoOffset}
 
@@ -29,10 +32,41 @@ offset_at kind bytes k = if is_long kind bytes k && nat_lt (tables_end kind byte
 abbrev pub tables_in : Kind → List ℕ → Tables
 tables_in kind bytes = record { ids = ids_in kind bytes; up_to = fan_out bytes; offset = offset_at kind bytes }
 
--- what contracts see: the kind of the ids, their number as the last fan-out entry says, all bytes if they are known, the path of what they are read
--- from, if it has one, and whether a read of them may fail
+-- where a table of ids ends
+abbrev pub end_of : IdTable → ℕ
+end_of table = table.start + byte_len_of table.kind * table.count
+
+-- its ids in some bytes
+abbrev pub ids_of : IdTable → List ℕ → List (List ℕ)
+ids_of table bytes = digests_in table.kind (slice_range bytes table.start (end_of table))
+
+-- where the ids begin
+abbrev pub first_id : Layout → ℕ
+first_id Index = ids_start
+first_id (Multi counts ids) = ids
+
+-- what the tables of some bytes say that are a pack index, or a multi-pack-index: in this no offset is in a table
+abbrev pub tables_of : Kind → Layout → List ℕ → Tables
+tables_of kind Index bytes = tables_in kind bytes
+tables_of kind (Multi counts ids) bytes = record {
+  ids = ids_of (record { kind = kind; start = ids; count = word_at bytes (counts + 1020) }) bytes;
+  up_to = λ byte. word_at bytes (counts + 4 * byte);
+  offset = λ at. None;
+}
+
+-- a fan-out table that was read, after 8 other bytes, is that of the tables in some bytes; the ids that it counts are in them; and the tables of a pack index fill
+-- them up to the digests
+pub record HasLayout (kind : Kind) (layout : Layout) (head : List ℕ) (end : ℕ) (bytes : List ℕ) : Type 0 where
+  pub counts : Each (λ byte. fan_out head byte ≡ (tables_of kind layout bytes).up_to byte) 256
+  pub inside : first_id layout + byte_len_of kind * num_objects head ≤ length bytes
+  pub fills : layout ≡ Index → HasTables kind bytes
+  pub ends : layout ≡ Index → end ≡ tables_end kind bytes
+
+-- what contracts see: the kind of the ids, where they are, their number as the last fan-out entry says, all bytes if they are known, the path of what they are
+-- read from, if it has one, and whether a read of them may fail
 pub record LazyIndex : Type 0 where
   pub kind : Kind
+  pub layout : Layout
   pub count : ℕ
   pub content : Option (List ℕ)
   pub path : List ℕ
@@ -47,7 +81,7 @@ pub record IndexView : Type 0 where
 
 -- what a look-up sees of one
 abbrev pub seen : LazyIndex → IndexView
-seen index = record { kind = index.kind; count = index.count; tables = option_map (tables_in index.kind) index.content; can_fail = index.can_fail }
+seen index = record { kind = index.kind; count = index.count; tables = option_map (tables_of index.kind index.layout) index.content; can_fail = index.can_fail }
 
 -- where the ids with the first byte begin, by fan-out entries
 abbrev pub bucket_start : (ℕ → ℕ) → ℕ → ℕ
@@ -144,11 +178,6 @@ pub record AreFront (digits : List ℕ) (front : Front) : Type 0 where
   pub most : length digits ≤ 16
   pub number : front.word ≡ word 16 digits
   pub mask : front.mask ≡ 2 ^ 64 - 2 ^ (4 * (16 - length digits))
-
--- the bytes have the tables of a pack index, and as many ids or more
-pub record HaveIds (kind : Kind) (bytes : List ℕ) (count : ℕ) : Type 0 where
-  pub tables : HasTables kind bytes
-  pub inside : count ≤ num_objects bytes
 
 -- a read failed that may, or memory ran out
 abbrev pub IsReadOrMemory : Bool → LazyError → Type 0

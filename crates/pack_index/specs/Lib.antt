@@ -1,3 +1,4 @@
 -- Git's pack indexes.
 pub mod Format
 pub mod Lazy
+pub mod Multi

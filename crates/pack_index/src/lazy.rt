@@ -1,15 +1,20 @@
 //! Pack indexes that are read at positions, and not whole.
 
-ghost use Rattle.std.specs.Prelude.{◌≡◌, ◌≢◌, ◌↔◌, ◌-◌, ◌*◌, ◌<◌, ◌≤◌, ℕ, [], All, IfErr, IfOk, IfSome, IsTrue, List, MatchOption, Some, length, slice_index_or, slice_range};
+ghost use Rattle.std.specs.Prelude.{◌≡◌, ◌≢◌, ◌↔◌, ◌-◌, ◌*◌, ◌^◌, ◌<◌, ◌≤◌, ℕ, [], All, IfErr, IfOk, IfSome, IsTrue, List, MatchOption, Some, length, slice_index_or, slice_range};
 ghost use Rattle.std.specs.Option.{ForSome};
 ghost use Rattle.id_lookup.specs.Words.{byte_len_of, first_byte_of, has_first_byte, hex_len_of, oid_digits};
 ghost use Rattle.pack_index.specs.Format.{Each, HasHead, HasTables, IsFirstIndexOf, digests_in, offset_word};
-ghost use Rattle.pack_index.specs.Lazy.{AreBetween, HaveRightCounts, HaveFirstByte, IsBucketFault, IsNarrowed, IsOffsetFault, IsOpenFault, IsOrdered, IsPartOf, IsReadOrMemory, IsRunFault, Rises, bucket_start, fan_out, position_of, seen};
+ghost use Rattle.pack_index.specs.Lazy.{AreBetween, HaveRightCounts, HaveFirstByte, IsBucketFault, IsNarrowed, IsOffsetFault, IsOpenFault, IsOrdered, IsPartOf, IsReadOrMemory, IsRunFault, Rises, bucket_start, end_of, fan_out, ids_of, position_of, seen, tables_of};
+ghost use Rattle.pack_index.specs.Multi.{IsReadAsMulti};
+ghost use Rattle.pack_index.specs.declared.layout.Layout.{Layout};
+ghost use Rattle.pack_index.specs.declared.layout.Layout.TheVariants.{Index};
 
 use crate::bucket::Bucket;
 use crate::checks::{COUNTS_LEN, check_head, first_fall};
 use crate::error::Error;
+use crate::layout::{IdTable, Layout, ids_len};
 use crate::lazy_error::LazyError;
+use crate::multi::{MultiPackIndex, chunks_in, fan_out_of, read_chunk};
 use crate::search::narrowed;
 use crate::words::{
     IDS_START, LONG, bucket_range, long_table_start, long_word_at, num_objects, offset_table_start,
@@ -21,9 +26,10 @@ use std::alloc::Allocator;
 use std::marker::Model;
 use streams::ReadAt;
 
-/// A pack index of Git, of version 2, that is read at positions: its first 1032 bytes as it is
-/// opened, and then only what a call needs. No entry of its fan-out table is below the one before
-/// it. Neither its checksum nor the order of its ids is checked. Positions count from 0.
+/// A pack index of Git, of version 2, or a multi-pack-index, that is read at positions: its header
+/// and its fan-out table as it is opened, and then only what a call needs. No entry of the fan-out
+/// table is below the one before it. Neither the checksum nor the order of the ids is checked.
+/// Positions count from 0.
 ///
 /// ```
 /// let mut index = LazyFile::open(idx, Kind::Sha1)?;
@@ -36,9 +42,10 @@ use streams::ReadAt;
 pub struct LazyFile<S: ReadAt> {
     source: S,
     kind: Kind,
-    // The magic number, the version and the fan-out table, whose entries do not fall.
+    layout: Layout,
+    // The fan-out table, whose entries do not fall. As in a pack index, 8 bytes are before it.
     head: [u8; IDS_START],
-    // Where the 8-byte offsets end.
+    // Where the 8-byte offsets of a pack index end.
     end: u64,
     // For each first byte whether the ids that are counted with it were read, have it, and are
     // sorted.
@@ -46,16 +53,17 @@ pub struct LazyFile<S: ReadAt> {
 }
 
 impl<S: ReadAt> Model for LazyFile<S> {
-    ghost use Rattle.std.specs.Prelude.{◌≡◌, IsTrue, false, slice_index_or};
+    ghost use Rattle.std.specs.Prelude.{◌+◌, ◌*◌, ◌^◌, ◌<◌, IsTrue, false, slice_index_or};
     ghost use Rattle.std.specs.Option.{ForSome};
-    ghost use Rattle.pack_index.specs.Format.{Each, HasTables, num_objects, tables_end};
-    ghost use Rattle.pack_index.specs.Lazy.{IsOrdered, LazyIndex, Rises, fan_out, tables_in};
-    ghost use Rattle.streams.specs.Streams.{IsReadAt};
+    ghost use Rattle.id_lookup.specs.Words.{byte_len_of};
+    ghost use Rattle.pack_index.specs.Format.{Each, num_objects};
+    ghost use Rattle.pack_index.specs.Lazy.{HasLayout, IsOrdered, LazyIndex, Rises, fan_out, first_id, tables_of};
 
     ghost Value = { LazyIndex };
 
     ghost view = { λ file. record {
       kind = file.kind;
+      layout = file.layout;
       count = num_objects file.head;
       content = S.content file.source;
       path = S.path file.source;
@@ -63,10 +71,11 @@ impl<S: ReadAt> Model for LazyFile<S> {
     } };
 
     ghost invariant = { λ file. Each (Rises (fan_out file.head)) 256
-        × ForSome (S.content file.source) (λ bytes. IsReadAt bytes 0 file.head
-        × HasTables file.kind bytes × (file.end ≡ tables_end file.kind bytes)
+        × (first_id file.layout + byte_len_of file.kind * num_objects file.head < 2 ^ 64)
+        × ForSome (S.content file.source) (λ bytes.
+        HasLayout file.kind file.layout file.head file.end bytes
         × Each (λ byte. IsTrue (slice_index_or file.ordered byte false)
-        → IsOrdered (tables_in file.kind bytes) byte) 256) };
+        → IsOrdered (tables_of file.kind file.layout bytes) byte) 256) };
 }
 
 impl<S: ReadAt + Drop> LazyFile<S> {
@@ -77,6 +86,7 @@ impl<S: ReadAt + Drop> LazyFile<S> {
     /// The errors are `Read`, `Head` and `CountsFall`.
     pub fn open(source: S, kind: Kind) -> Result<LazyFile<S>, LazyError>
         ensures kind { IfOk result (λ file. file.kind ≡ kind) }
+        ensures layout { IfOk result (λ file. file.layout ≡ Index) }
         ensures content { IfOk result (λ file. file.content ≡ S.content source) }
         ensures path { IfOk result (λ file. file.path ≡ S.path source) }
         ensures reads { IfOk result (λ file. file.can_fail ≡ S.can_fail source) }
@@ -100,10 +110,66 @@ impl<S: ReadAt + Drop> LazyFile<S> {
         Ok(LazyFile {
             source,
             kind,
+            layout: Layout::Index,
             head,
             end,
             ordered: [false; 256],
         })
+    }
+
+    /// Opens the bytes of a source as a multi-pack-index with ids of a kind. At most 3,084 bytes at
+    /// its beginning, the fan-out table and the names of its packs are read.
+    ///
+    /// Returns `None` if they are not read as a multi-pack-index of version 1 that builds on no
+    /// other, as Git's gitformat-pack describes it: if a chunk is missing, does not end before the
+    /// digest or has the wrong length, or if a fan-out entry is below the one before it; and if the
+    /// chunk of names has more than `most` bytes. Neither the checksum nor the order of the ids is
+    /// checked, nor which packs have them. The errors are `Read` and `Memory`.
+    pub fn open_multi<A: Allocator>(
+        alloc: A,
+        source: S,
+        kind: Kind,
+        most: u64,
+    ) -> Result<Option<MultiPackIndex<S, A>>, LazyError>
+        ensures kind { IfOk result (λ found. IfSome found (λ multi. multi.ids.kind ≡ kind)) }
+        ensures content { IfOk result (λ found. IfSome found (λ multi.
+            multi.ids.content ≡ S.content source)) }
+        ensures path { IfOk result (λ found. IfSome found (λ multi.
+            multi.ids.path ≡ S.path source)) }
+        ensures reads { IfOk result (λ found. IfSome found (λ multi.
+            multi.ids.can_fail ≡ S.can_fail source)) }
+        ensures read { IfOk result (λ found. ForSome (S.content source) (λ bytes.
+            MatchOption found ((layout : Layout) (names : List ℕ)
+            → IsReadAsMulti kind bytes layout names → most < length names)
+            (λ multi. IsReadAsMulti kind bytes multi.ids.layout multi.names.items))) }
+        ensures few { IfOk result (λ found. IfSome found (λ multi.
+            length multi.names.items ≤ most)) }
+        ensures err { IfErr result (λ e. ForSome (S.content source) (λ _.
+            IsReadOrMemory (S.can_fail source) e)) }
+    {
+        let Some(chunks) = chunks_in(&source, kind)? else {
+            return Ok(None);
+        };
+        if chunks.names.end - chunks.names.start > most {
+            return Ok(None);
+        }
+        let Some(head) = fan_out_of(&source, kind, &chunks)? else {
+            return Ok(None);
+        };
+        let names = read_chunk(alloc, &source, &chunks.names)?;
+        let layout = Layout::Multi {
+            counts: chunks.counts.start,
+            ids: chunks.ids.start,
+        };
+        let ids = LazyFile {
+            source,
+            kind,
+            layout,
+            head,
+            end: 0,
+            ordered: [false; 256],
+        };
+        Ok(Some(MultiPackIndex { ids, names }))
     }
 
     /// The kind of the ids.
@@ -117,7 +183,8 @@ impl<S: ReadAt + Drop> LazyFile<S> {
     pub fn num_objects(&self) -> u32
         ensures count { result ≡ self.now.count }
         ensures ids { ForSome (seen self.now).tables (λ tables. result ≡ length tables.ids) }
-        ensures tables { ForSome self.now.content (HasTables self.now.kind) }
+        ensures tables { ForSome self.now.content (λ bytes.
+            self.now.layout ≡ Index → HasTables self.now.kind bytes) }
     {
         num_objects(&self.head)
     }
@@ -188,7 +255,7 @@ impl<S: ReadAt + Drop> LazyFile<S> {
 
     /// The offset of object `at` in the pack, in bytes; `at` must be below `num_objects()`. One
     /// number is read, and a second one if it is an 8-byte offset. The errors are `Read` and
-    /// `NoOffset`.
+    /// `NoOffset`, the latter for each object of a multi-pack-index.
     pub fn pack_offset_at_index(&self, at: u32) -> Result<u64, LazyError>
         requires { at < self.now.count }
         ensures offset { IfOk result (λ offset. ForSome (seen self.now).tables (λ tables.
@@ -196,6 +263,9 @@ impl<S: ReadAt + Drop> LazyFile<S> {
         ensures err { IfErr result (λ e. ForSome (seen self.now).tables (λ tables.
             IsOffsetFault self.now.can_fail tables at e)) }
     {
+        if self.layout != Layout::Index {
+            return Err(LazyError::NoOffset(at as usize));
+        }
         let word = self.read_offset_word(at)?;
         if word < LONG {
             return Ok(u64::from(word));
@@ -211,7 +281,8 @@ impl<S: ReadAt + Drop> LazyFile<S> {
 
     // What the table of offsets has for object `at`.
     fn read_offset_word(&self, at: u32) -> Result<u32, LazyError>
-        requires { at < self.now.count }
+        requires in_range { at < self.now.count }
+        requires index { self.now.layout ≡ Index }
         ensures word { IfOk result (λ word. ForSome self.now.content (λ bytes.
             word ≡ offset_word self.now.kind bytes at)) }
         ensures err { IfErr result (λ e. ForSome (seen self.now).tables (λ tables.
@@ -263,10 +334,8 @@ impl<S: ReadAt + Drop> LazyFile<S> {
         ensures err { IfErr result (λ e. ForSome (seen self.now).tables (λ _.
             IsReadOrMemory self.now.can_fail e)) }
     {
-        // Its contract says how many ids there are.
-        let _count = self.num_objects();
         let run = self.run_of(prefix.first_byte());
-        Ok(narrowed(&self.source, self.kind, prefix, run)?)
+        Ok(narrowed(&self.source, self.ids(), prefix, run)?)
     }
 
     // Reads the ids of a run, which must have a first byte.
@@ -303,15 +372,27 @@ impl<S: ReadAt + Drop> LazyFile<S> {
         ensures err { IfErr result (λ e. ForSome (seen self.now).tables (λ _.
             IsReadOrMemory self.now.can_fail e)) }
     {
-        let _count = num_objects(&self.head);
-        let (at, len) = match self.kind {
-            Kind::Sha1 => (20 * run.start, 20 * (run.end - run.start)),
-            Kind::Sha256 => (32 * run.start, 32 * (run.end - run.start)),
-        };
-        let mut table = vec![in alloc; 0; len]?;
+        let ids = self.ids();
+        let mut table = vec![in alloc; 0; ids_len(ids.kind, run.end - run.start)]?;
         self.source
-            .read_exact_at(&mut table, (IDS_START + at) as u64)?;
+            .read_exact_at(&mut table, ids.start_of(run.start))?;
         Ok(table)
+    }
+
+    // Where the ids are.
+    fn ids(&self) -> IdTable
+        ensures kind { result.kind ≡ self.now.kind }
+        ensures count { result.count ≡ self.now.count }
+        ensures room { end_of result < 2 ^ 64 }
+        ensures inside { ForSome self.now.content (λ bytes. end_of result ≤ length bytes) }
+        ensures ids { ForSome self.now.content (λ bytes.
+            ids_of result bytes ≡ (tables_of self.now.kind self.now.layout bytes).ids) }
+    {
+        IdTable {
+            kind: self.kind,
+            start: self.layout.first_id(),
+            count: num_objects(&self.head),
+        }
     }
 }
 

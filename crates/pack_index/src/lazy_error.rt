@@ -34,7 +34,8 @@ pub enum LazyError {
     /// An id that has this first byte by the fan-out table has another.
     #[error("an id among those with the first byte {0:02x} has another")]
     WrongCount(u8),
-    /// The entry of the object at this position points past the end of the table of 8-byte offsets.
+    /// The entry of the object at this position points past the end of the table of 8-byte offsets,
+    /// or the file is a multi-pack-index, of which no offset is read.
     #[error("the object at position {0} has no offset")]
     NoOffset(usize),
 }

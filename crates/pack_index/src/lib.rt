@@ -5,6 +5,8 @@
 //! and checksum. Opening does not allocate and copies no id. The ids are looked up by
 //! [`lookup_in`](id_lookup::lookup_in) where they are stored, and the index has the offset of each
 //! object in the pack.
+//!
+//! A [`LazyFile`] reads a pack index, or the ids of a multi-pack-index, at positions of a file.
 #![tactic(auto)]
 
 mod bucket;
@@ -13,8 +15,10 @@ mod digests;
 mod error;
 mod front;
 mod index_file;
+mod layout;
 mod lazy;
 mod lazy_error;
+mod multi;
 mod offsets;
 mod search;
 pub mod tables;
@@ -23,5 +27,7 @@ mod words;
 pub use bucket::Bucket;
 pub use error::Error;
 pub use index_file::File;
+pub use layout::Layout;
 pub use lazy::LazyFile;
 pub use lazy_error::LazyError;
+pub use multi::MultiPackIndex;

@@ -1,12 +1,11 @@
 //! A search among the ids of a pack index that reads only those that it compares.
 
-ghost use Rattle.std.specs.Prelude.{◌≡◌, ◌+◌, ◌*◌, ◌^◌, ◌<◌, ◌≤◌, ℕ, List, Some, [], IfOk, IfSome, IsTrue, OnErr, length, slice_index_or, take};
-ghost use Rattle.id_lookup.specs.Words.{byte_len_of, hex_len_of, place};
-ghost use Rattle.pack_index.specs.Format.{ids_in, ids_start};
-ghost use Rattle.pack_index.specs.Lazy.{AreFront, AreWithin, HaveIds};
+ghost use Rattle.std.specs.Prelude.{◌≡◌, ◌^◌, ◌<◌, ◌≤◌, ℕ, List, Some, [], IfOk, IfSome, IsTrue, OnErr, length, slice_index_or, take};
+ghost use Rattle.id_lookup.specs.Words.{hex_len_of, place};
+ghost use Rattle.pack_index.specs.Lazy.{AreFront, AreWithin, end_of, ids_of};
 
 use crate::front::Front;
-use crate::words::IDS_START;
+use crate::layout::IdTable;
 use gix_hash::{Kind, Prefix};
 use id_lookup::{Id, Run};
 use std::cmp::Ordering;
@@ -24,20 +23,21 @@ const MAX_TURNS: usize = 128;
 /// others if none begins with it, and otherwise a few, if so many comparisons suffice.
 pub(crate) fn narrowed<S: ReadAt>(
     source: &S,
-    kind: Kind,
+    ids: IdTable,
     prefix: &Prefix,
     run: Run,
 ) -> io::Result<Run>
-    requires fits { length prefix.now.digits ≤ hex_len_of kind }
-    requires small { run.end < 2 ^ 32 }
+    requires fits { length prefix.now.digits ≤ hex_len_of ids.kind }
+    requires inside { run.end ≤ ids.count }
+    requires room { end_of ids < 2 ^ 64 }
     requires in_order { run.start ≤ run.end }
     requires known { (bytes : List ℕ) → S.content source.now ≡ Some bytes
-        → HaveIds kind bytes run.end }
+        → end_of ids ≤ length bytes }
     ensures from { IfOk result (λ part. run.start ≤ part.start) }
     ensures in_order { IfOk result (λ part. part.start ≤ part.end) }
     ensures to { IfOk result (λ part. part.end ≤ run.end) }
     ensures all { IfOk result (λ part. (bytes : List ℕ) → S.content source.now ≡ Some bytes
-        → AreWithin (ids_in kind bytes) prefix.now.digits run.start run.end part.start part.end) }
+        → AreWithin (ids_of ids bytes) prefix.now.digits run.start run.end part.start part.end) }
     ensures err { OnErr result ((bytes : List ℕ) → S.content source.now ≡ Some bytes
         → IsTrue (S.can_fail source.now)) }
 {
@@ -49,7 +49,7 @@ pub(crate) fn narrowed<S: ReadAt>(
             break;
         };
         let len = part.end - part.start;
-        part = cut(source, kind, prefix, &front, part, at)?;
+        part = cut(source, ids, prefix, &front, part, at)?;
         if part.end - part.start == len {
             positions.found(at);
         }
@@ -61,30 +61,31 @@ pub(crate) fn narrowed<S: ReadAt>(
 // prefix.
 fn cut<S: ReadAt>(
     source: &S,
-    kind: Kind,
+    ids: IdTable,
     prefix: &Prefix,
     front: &Front,
     part: Run,
     at: usize,
 ) -> io::Result<Run>
     requires front { AreFront (take 16 prefix.now.digits) front.now }
-    requires fits { length prefix.now.digits ≤ hex_len_of kind }
-    requires small { part.end < 2 ^ 32 }
+    requires fits { length prefix.now.digits ≤ hex_len_of ids.kind }
+    requires inside { part.end ≤ ids.count }
+    requires room { end_of ids < 2 ^ 64 }
     requires above { part.start ≤ at }
     requires below { at < part.end }
     requires known { (bytes : List ℕ) → S.content source.now ≡ Some bytes
-        → HaveIds kind bytes part.end }
+        → end_of ids ≤ length bytes }
     ensures from { IfOk result (λ cut. part.start ≤ cut.start) }
     ensures in_order { IfOk result (λ cut. cut.start ≤ cut.end) }
     ensures to { IfOk result (λ cut. cut.end ≤ part.end) }
     ensures all { IfOk result (λ cut. (bytes : List ℕ) → S.content source.now ≡ Some bytes
-        → (start end : ℕ) → start ≤ part.start → part.end ≤ end → HaveIds kind bytes end
-        → AreWithin (ids_in kind bytes) prefix.now.digits start end part.start part.end
-        → AreWithin (ids_in kind bytes) prefix.now.digits start end cut.start cut.end) }
+        → (start end : ℕ) → start ≤ part.start → part.end ≤ end → end ≤ ids.count
+        → AreWithin (ids_of ids bytes) prefix.now.digits start end part.start part.end
+        → AreWithin (ids_of ids bytes) prefix.now.digits start end cut.start cut.end) }
     ensures err { OnErr result ((bytes : List ℕ) → S.content source.now ≡ Some bytes
         → IsTrue (S.can_fail source.now)) }
 {
-    match place_at(source, kind, prefix, front, at)? {
+    match place_at(source, ids, prefix, front, at)? {
         Ordering::Greater => Ok(Run {
             start: at + 1,
             end: part.end,
@@ -101,25 +102,26 @@ fn cut<S: ReadAt>(
 // do not decide.
 fn place_at<S: ReadAt>(
     source: &S,
-    kind: Kind,
+    ids: IdTable,
     prefix: &Prefix,
     front: &Front,
     at: usize,
 ) -> io::Result<Ordering>
     requires front { AreFront (take 16 prefix.now.digits) front.now }
-    requires fits { length prefix.now.digits ≤ hex_len_of kind }
-    requires small { at < 2 ^ 32 }
+    requires fits { length prefix.now.digits ≤ hex_len_of ids.kind }
+    requires inside { at < ids.count }
+    requires room { end_of ids < 2 ^ 64 }
     requires known { (bytes : List ℕ) → S.content source.now ≡ Some bytes
-        → HaveIds kind bytes (at + 1) }
+        → end_of ids ≤ length bytes }
     ensures place { IfOk result (λ o. (bytes : List ℕ) → S.content source.now ≡ Some bytes
-        → o ≡ place prefix.now.digits (slice_index_or (ids_in kind bytes) at [])) }
+        → o ≡ place prefix.now.digits (slice_index_or (ids_of ids bytes) at [])) }
     ensures err { OnErr result ((bytes : List ℕ) → S.content source.now ≡ Some bytes
         → IsTrue (S.can_fail source.now)) }
 {
     let mut first = [0; 8];
-    source.read_exact_at(&mut first, name_start(kind, at) as u64)?;
+    source.read_exact_at(&mut first, ids.start_of(at))?;
     match front.place(&first) {
-        Ordering::Equal => whole_place_at(source, kind, prefix, at),
+        Ordering::Equal => whole_place_at(source, ids, prefix, at),
         order => Ok(order),
     }
 }
@@ -128,21 +130,22 @@ fn place_at<S: ReadAt>(
 #[inline(never)]
 fn whole_place_at<S: ReadAt>(
     source: &S,
-    kind: Kind,
+    ids: IdTable,
     prefix: &Prefix,
     at: usize,
 ) -> io::Result<Ordering>
-    requires fits { length prefix.now.digits ≤ hex_len_of kind }
-    requires small { at < 2 ^ 32 }
+    requires fits { length prefix.now.digits ≤ hex_len_of ids.kind }
+    requires inside { at < ids.count }
+    requires room { end_of ids < 2 ^ 64 }
     requires known { (bytes : List ℕ) → S.content source.now ≡ Some bytes
-        → HaveIds kind bytes (at + 1) }
+        → end_of ids ≤ length bytes }
     ensures place { IfOk result (λ o. (bytes : List ℕ) → S.content source.now ≡ Some bytes
-        → o ≡ place prefix.now.digits (slice_index_or (ids_in kind bytes) at [])) }
+        → o ≡ place prefix.now.digits (slice_index_or (ids_of ids bytes) at [])) }
     ensures err { OnErr result ((bytes : List ℕ) → S.content source.now ≡ Some bytes
         → IsTrue (S.can_fail source.now)) }
 {
-    let start = name_start(kind, at) as u64;
-    match kind {
+    let start = ids.start_of(at);
+    match ids.kind {
         Kind::Sha1 => {
             let mut id = [0; 20];
             source.read_exact_at(&mut id, start)?;
@@ -153,17 +156,6 @@ fn whole_place_at<S: ReadAt>(
             source.read_exact_at(&mut id, start)?;
             Ok(prefix.cmp_oid(Id::as_oid(&id)))
         }
-    }
-}
-
-// Where the id at a position begins, in bytes from the start of the index.
-fn name_start(kind: Kind, at: usize) -> usize
-    requires { at < 2 ^ 32 }
-    ensures { result ≡ ids_start + byte_len_of kind * at }
-{
-    match kind {
-        Kind::Sha1 => IDS_START + 20 * at,
-        Kind::Sha256 => IDS_START + 32 * at,
     }
 }
 

@@ -8,5 +8,5 @@ loop-turn-preserved g c =
       from = omega (arith, before.from, cut.from);
       in_order = cut.in_order;
       to = omega (arith, before.to, cut.to);
-      all = λ bytes is. cut.all bytes is c.args.run.start c.args.run.end before.from before.to (c.requires.known bytes is) (before.all bytes is);
+      all = λ bytes is. cut.all bytes is c.args.run.start c.args.run.end before.from before.to c.requires.inside (before.all bytes is);
     }

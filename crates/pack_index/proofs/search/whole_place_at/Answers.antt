@@ -1,37 +1,37 @@
 use Rattle.gix_hash.proofs.Std.{◌∙◌, ℕ, sym, ap, arith, subst, err_from_is_err_and}
 use Rattle.id_lookup.specs.Words.{byte_len_of, place}
 use Rattle.streams.specs.Streams.{IsReadAt}
-use Rattle.pack_index.specs.Format.{num_objects}
-use Rattle.pack_index.proofs.Buckets.{id_at, id_fits}
+use Rattle.pack_index.proofs.Buckets.{id_at, run_fits}
 use Rattle.pack_index.proofs.search.whole_place_at.Goals as goal
 
 pub returns-in_ok-read_exact_at-in-Sha1-clause-place : goal.returns-in_ok-read_exact_at-in-Sha1-clause-place
 returns-in_ok-read_exact_at-in-Sha1-clause-place g c = λ bytes is.
-    let ids = c.requires.known bytes is in
+    let ids = c.args.ids in
     let id = c.read_exact_at.new.buf in
-    let read = subst (λ (from : ℕ). IsReadAt bytes from id) c.name_start-start.ensures (c.in_ok-read_exact_at-in-Sha1.ensures.bytes bytes is) in
+    let read = subst (λ (from : ℕ). IsReadAt bytes from id) c.start_of-start.ensures (c.in_ok-read_exact_at-in-Sha1.ensures.bytes bytes is) in
     c.cmp_oid.ensures ∙ ap (place c.args.prefix.now.digits) (c.as_oid.ensures.digits
-    ∙ id_at c.args.kind bytes 1032 (num_objects bytes) (omega (arith, ids.tables.fits)) id c.args.at (omega (arith, ids.inside)) read (c.read_exact_at.auto.buf ∙ sym (ap byte_len_of c.in-Sha1.is)))
+    ∙ id_at ids.kind bytes ids.start ids.count (c.requires.known bytes is) id c.args.at c.requires.inside read (c.read_exact_at.auto.buf ∙ sym (ap byte_len_of c.in-Sha1.is)))
 
 pub returns-in_ok-read_exact_at-in-Sha256-clause-place : goal.returns-in_ok-read_exact_at-in-Sha256-clause-place
 returns-in_ok-read_exact_at-in-Sha256-clause-place g c = λ bytes is.
-    let ids = c.requires.known bytes is in
+    let ids = c.args.ids in
     let id = c.read_exact_at-in-Sha256.new.buf in
-    let read = subst (λ (from : ℕ). IsReadAt bytes from id) c.name_start-start.ensures (c.in_ok-read_exact_at-in-Sha256.ensures.bytes bytes is) in
+    let read = subst (λ (from : ℕ). IsReadAt bytes from id) c.start_of-start.ensures (c.in_ok-read_exact_at-in-Sha256.ensures.bytes bytes is) in
     c.cmp_oid-in-Sha256.ensures ∙ ap (place c.args.prefix.now.digits) (c.as_oid-in-Sha256.ensures.digits
-    ∙ id_at c.args.kind bytes 1032 (num_objects bytes) (omega (arith, ids.tables.fits)) id c.args.at (omega (arith, ids.inside)) read (c.read_exact_at-in-Sha256.auto.buf ∙ sym (ap byte_len_of c.in-Sha256.is)))
+    ∙ id_at ids.kind bytes ids.start ids.count (c.requires.known bytes is) id c.args.at c.requires.inside read (c.read_exact_at-in-Sha256.auto.buf ∙ sym (ap byte_len_of c.in-Sha256.is)))
 
 pub returns-in_err-read_exact_at-in-Sha1-clause-err : goal.returns-in_err-read_exact_at-in-Sha1-clause-err
 returns-in_err-read_exact_at-in-Sha1-clause-err g c =
     let failed = err_from_is_err_and c.from_residual.result c.from_residual.ensures.1 in
     rw (failed.1) (λ bytes is.
-    let fits = id_fits c.args.kind bytes c.args.at (c.requires.known bytes is) in
-    c.in_err-read_exact_at-in-Sha1.ensures.err bytes is (omega (arith, fits, ap byte_len_of c.in-Sha1.is, c.name_start-start.ensures, c.read_exact_at.auto.buf)))
+    let fits = run_fits c.args.ids.kind c.args.ids.start c.args.ids.count c.args.at 1 (omega (arith, c.requires.inside)) in
+    c.in_err-read_exact_at-in-Sha1.ensures.err bytes is
+    (omega (arith, fits, c.requires.known bytes is, ap byte_len_of c.in-Sha1.is, c.start_of-start.ensures, c.read_exact_at.auto.buf)))
 
 pub returns-in_err-read_exact_at-in-Sha256-clause-err : goal.returns-in_err-read_exact_at-in-Sha256-clause-err
 returns-in_err-read_exact_at-in-Sha256-clause-err g c =
     let failed = err_from_is_err_and c.from_residual-in_err-read_exact_at-in-Sha256.result c.from_residual-in_err-read_exact_at-in-Sha256.ensures.1 in
     rw (failed.1) (λ bytes is.
-    let fits = id_fits c.args.kind bytes c.args.at (c.requires.known bytes is) in
+    let fits = run_fits c.args.ids.kind c.args.ids.start c.args.ids.count c.args.at 1 (omega (arith, c.requires.inside)) in
     c.in_err-read_exact_at-in-Sha256.ensures.err bytes is
-    (omega (arith, fits, ap byte_len_of c.in-Sha256.is, c.name_start-start.ensures, c.read_exact_at-in-Sha256.auto.buf)))
+    (omega (arith, fits, c.requires.known bytes is, ap byte_len_of c.in-Sha256.is, c.start_of-start.ensures, c.read_exact_at-in-Sha256.auto.buf)))

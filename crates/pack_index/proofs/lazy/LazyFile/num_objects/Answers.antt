@@ -1,12 +1,8 @@
-use Rattle.gix_hash.proofs.Std.{◌≡◌, ◌∙◌, length, sym, arith, rules}
-use Rattle.pack_index.proofs.Counted.{length-ids_in}
-use Rattle.pack_index.proofs.Heads.{head_count}
+use Rattle.gix_hash.proofs.Std.{◌∙◌, sym}
 use Rattle.pack_index.proofs.Known.{by_bytes}
+use Rattle.pack_index.proofs.Layouts.{count_is}
 use Rattle.pack_index.proofs.lazy.LazyFile.num_objects.Goals as goal
 
 pub returns-clause-ids : goal.returns-clause-ids
 returns-clause-ids g c =
-    let long : length c.self.inside.head ≡ 1032 = first_of (search rules, omega arith) in
-    rw (← c.self.view_is) (by_bytes c.self.inside.kind _ _ (λ bytes is.
-    let inv = c.self.invariant.1 bytes is in
-    c.num_objects.ensures ∙ head_count bytes c.self.inside.head inv.0 long ∙ sym (length-ids_in c.self.inside.kind bytes inv.1)))
+    rw (← c.self.view_is) (by_bytes c.self.inside.kind c.self.inside.layout _ _ (λ bytes is. c.num_objects.ensures ∙ sym (count_is _ _ _ _ bytes (c.self.invariant.2 bytes is).0)))

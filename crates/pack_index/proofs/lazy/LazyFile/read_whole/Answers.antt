@@ -1,6 +1,6 @@
 use Rattle.gix_hash.proofs.Std.{◌≡◌, ◌∙◌, ℕ, Bool, List, Some, true, false, inl, inr, get_or, option_map, sym, ap, subst, arith, IsTrue, cases_lt, err_from_is_err_and, get_or-set_other, slice_set}
 use Rattle.pack_index.specs.Format.{Each}
-use Rattle.pack_index.specs.Lazy.{IsOrdered, LazyIndex, seen, tables_in}
+use Rattle.pack_index.specs.Lazy.{IsOrdered, LazyIndex, seen, tables_of}
 use Rattle.pack_index.proofs.Buckets.{bucket_fault}
 use Rattle.pack_index.proofs.Parts.{whole_ordered, whole_part}
 use Rattle.pack_index.proofs.lazy.LazyFile.read_whole.Goals as goal
@@ -28,14 +28,15 @@ returns-in_err-bucket-clause-err g c =
 pub invariant_of-self : goal.invariant_of-self
 invariant_of-self g c = (
   c.self.invariant.0,
+  c.self.invariant.1,
   λ bytes is.
-      let inv = c.self.invariant.1 bytes is in
+      let inv = c.self.invariant.2 bytes is in
       let run = c.run_of-run.ensures in
-      let tables = tables_in c.self.inside.kind bytes in
-      let known : (seen c.args.self.now).tables ≡ Some tables = sym (ap (λ (f : LazyIndex). (seen f).tables) c.self.view_is) ∙ ap (option_map (tables_in c.self.inside.kind)) is in
+      let tables = tables_of c.self.inside.kind c.self.inside.layout bytes in
+      let known : (seen c.args.self.now).tables ≡ Some tables = sym (ap (λ (f : LazyIndex). (seen f).tables) c.self.view_is) ∙ ap (option_map (tables_of c.self.inside.kind c.self.inside.layout)) is in
       let ordered = whole_ordered (seen c.args.self.now) c.args.byte c.run_of-run.result.start c.run_of-run.result.end c.in_ok-bucket.bucket c.in_ok-bucket.ensures.ids tables known
       (run.start tables known) (run.end tables known) (run.ids tables known) (c.is_sorted.ensures c.if-is_sorted.true) in
-      (inv.0, inv.1, inv.2, noted (IsOrdered tables) c.self.inside.ordered c.from.result (rw c.from.ensures ordered) inv.3),
+      (inv.0, noted (IsOrdered tables) c.self.inside.ordered c.from.result (rw c.from.ensures ordered) inv.1),
 )
 
 pub returns-clause-part : goal.returns-clause-part
