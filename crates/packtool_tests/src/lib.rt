@@ -18,6 +18,8 @@ mod pack_index_index_file;
 #[cfg(test)]
 mod pack_index_lazy;
 #[cfg(test)]
+mod pack_index_multi;
+#[cfg(test)]
 mod packtool_commands_error;
 #[cfg(test)]
 mod packtool_commands_finding;
