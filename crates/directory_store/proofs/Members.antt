@@ -1,5 +1,5 @@
 -- What lists contain that are made of other lists.
-use Rattle.gix_hash.proofs.Std.{◌≡◌, ◌∙◌, ◌<◌, ◌++◌, zero, suc, Bool, true, false, if◌then◌else◌, List, [], ◌∷◌, All, All-contains, All-map, All-push, AllZip, Contains, Contains-append_cases, Contains-append_left, Contains-append_right, Contains-get_or, ap, arith, flat_map, get_or, get_or-map, inl, inr, length, length-map, map, refl, subst, sym}
+use Rattle.gix_hash.proofs.Std.{◌≡◌, ◌∙◌, ◌<◌, ◌++◌, zero, suc, Bool, true, false, if◌then◌else◌, List, [], ◌∷◌, All, All-contains, All-map, All-push, AllZip, Contains, Contains-append_cases, Contains-append_left, Contains-append_right, Contains-get_or, ap, arith, flat_map, get_or, get_or-map, inl, inr, length, length-map, map, map-append, refl, subst, sym}
 use Rattle.std.proofs.lemmas.Slice.Zip.{AllZip-long}
 use Rattle.object_store.proofs.Zipped.{zipped_at}
 
@@ -41,3 +41,7 @@ module _ {X Y : Type 0} (R : X → Y → Type 0) (xs : List X) (ys : List Y) (ea
   zip_from has =
       let low : has.0 < length xs = omega (arith, has.1, AllZip-long R xs ys each) in
       (get_or xs has.0 x, Contains-get_or xs has.0 x low, subst (R (get_or xs has.0 x)) has.2 (zipped_at R xs ys each has.0 x y low))
+
+-- one more of each of two lists of which the same is made
+pub one_more : {X Y Z : Type 0} (f : Y → X) (g : Z → X) (ys : List Y) (zs : List Z) (y : Y) (z : Z) → f y ≡ g z → map f ys ≡ map g zs → map f (ys ++ y ∷ []) ≡ map g (zs ++ z ∷ [])
+one_more f g ys zs y z is before = map-append f ys (y ∷ []) ∙ (λ i. before i ++ is i ∷ []) ∙ sym (map-append g zs (z ∷ []))

@@ -79,7 +79,7 @@ found_members at which directories view prefix read found has counted long ids_r
 
 -- what is known of a store
 module _ (answers : Option Answers) (objects : ObjectDirectory) (directories : List (List ℕ)) (skipped : List Error) (paths : List (List ℕ)) (indexes : List LazyIndex)
-    (loose : LooseObjects) (before : List LooseObjects) (kinds : All (λ (index : LazyIndex). index.kind ≡ objects.kind) indexes)
+    (loose : LooseObjects) (before : List LooseObjects)
     (opened : ∥ (skipped ≡ [] → IfKnown (λ at. AreOpened at objects directories paths indexes) answers) ∥₁)
     (listed : ∥ IfKnown (λ at. All (AreLooseOf at objects.kind directories) (loose ∷ before)) answers ∥₁) where
   abbrev view_of : StoreView
@@ -93,10 +93,10 @@ module _ (answers : Option Answers) (objects : ObjectDirectory) (directories : L
         (All-head (AreLooseOf at objects.kind directories) loose before are) loose.all
 
     abbrev known_of : AreKnown view_of
-    known_of = are_known at loose.which view_of directories found.packs found.listed found.all indexes refl kinds found.contents members_of counted
+    known_of = are_known at loose.which view_of directories found.packs found.listed found.all indexes refl found.tables members_of counted
 
     abbrev ids_of : (id : List ℕ) → Contains (ids_held view_of known_of) id ↔ IsObject at objects.kind loose.which directories id
-    ids_of = ids_are at loose.which view_of directories found.packs found.listed found.all indexes refl kinds found.contents members_of counted
+    ids_of = ids_are at loose.which view_of directories found.packs found.listed found.all indexes refl found.tables members_of counted
 
   pub has_all : skipped ≡ [] → IfKnown (λ at. HasAllOf at loose.which objects view_of) answers
   has_all none at known = (

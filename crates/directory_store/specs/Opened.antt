@@ -13,7 +13,7 @@ use Rattle.repositories.specs.Answers.{Answers, IfKnown}
 use Rattle.repositories.specs.Walks.{with_alternates}
 use Rattle.repositories.specs.declared.finding.ObjectDirectory.{ObjectDirectory}
 use Rattle.directory_store.specs.Loose.{AreLoose, HasLoose, bytes_asked, listed_in}
-use Rattle.directory_store.specs.Packs.{AreOpenOrDamaged, ArePacks, bytes_at, is_found_file, packs_of, split_names, unnamed_in}
+use Rattle.directory_store.specs.Packs.{AreOpenOrDamaged, ArePacks, is_found_file, packs_of, split_names, tables_at, tables_seen, unnamed_in}
 use Rattle.directory_store.specs.Stores.{IsChanged, IsUnread, index_path}
 use Rattle.directory_store.specs.declared.error.Error.{Error}
 use Rattle.directory_store.specs.declared.loose.LooseIds.{LooseIds}
@@ -72,7 +72,7 @@ pub record AreOpened (at : Answers) (objects : ObjectDirectory) (directories pat
   pub packs : List PackPaths
   pub listed : ArePacks at (map packs_of directories) packs
   pub all : paths ≡ map index_path packs
-  pub contents : map (λ (index : LazyIndex). index.content) indexes ≡ map (bytes_at at) paths
+  pub tables : tables_seen indexes ≡ map (tables_at at objects.kind) paths
 
 -- these loose objects were listed in object directories
 abbrev pub AreLooseOf : Answers → Kind → List (List ℕ) → LooseObjects → Type 0

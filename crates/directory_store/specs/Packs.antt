@@ -1,5 +1,5 @@
 -- Which packs there are: by what directories and files answer.
-use Rattle.std.specs.Prelude.{ℕ, ◌≡◌, ◌⊎◌, ◌==◌, ◌∷◌, All, Bool, Err, List, [], None, Ok, Option, Result, Some, String, codes, false, flat_map, if◌then◌else◌, map, nat_eq, not, string_bytes, unwrap_or}
+use Rattle.std.specs.Prelude.{ℕ, ◌≡◌, ◌⊎◌, ◌==◌, ◌∷◌, All, Bool, Err, List, [], None, Ok, Option, Result, Some, String, codes, false, flat_map, if◌then◌else◌, map, nat_eq, not, option_map, string_bytes, unwrap_or}
 use Rattle.std.specs.Cmp.Lexicographic.{slice_cmp}
 use Rattle.std.specs.Global.{Global}
 use Rattle.std.specs.List.{AllZip, Contains, count_by, ends_with, filter, slice_split}
@@ -12,7 +12,7 @@ use Rattle.std.specs.declared.io.ErrorKind.{ErrorKind}
 use Rattle.std.specs.declared.io.ErrorKind.TheVariants.{NotFound}
 use Rattle.gix_hash.specs.declared.Kind.{Kind}
 use Rattle.object_store.specs.declared.error.Error.TheVariants as look_up_errors
-use Rattle.pack_index.specs.Lazy.{IsOpenFault}
+use Rattle.pack_index.specs.Lazy.{IsOpenFault, LazyIndex, Tables, seen, tables_in}
 use Rattle.pack_index.specs.declared.lazy_error.LazyError.{LazyError}
 use Rattle.repositories.specs.Answers.{Answers}
 use Rattle.repositories.specs.declared.directories.Found.{Found}
@@ -88,6 +88,14 @@ pub record ArePacks (at : Answers) (directories : List (List ℕ)) (packs : List
 -- the bytes of a file, as a read of it answered; or none, if it failed
 abbrev pub bytes_at : Answers → List ℕ → Option (List ℕ)
 bytes_at at path = result_ok (at.bytes path)
+
+-- the tables of the pack index in a file, as a read of it answered; or none, if it failed
+abbrev pub tables_at : Answers → Kind → List ℕ → Option Tables
+tables_at at kind path = option_map (tables_in kind) (bytes_at at path)
+
+-- the tables of pack indexes that are open, as a look-up sees them
+abbrev pub tables_seen : List LazyIndex → List (Option Tables)
+tables_seen indexes = map (λ (index : LazyIndex). (seen index).tables) indexes
 
 -- the error of a pack index at this path that is damaged: by the bytes there, as a read of them answered
 pub record IsDamagedAt (at : Answers) (kind : Kind) (path : List ℕ) (error : Error) : Type 0 where

@@ -4,11 +4,12 @@ ghost use Rattle.std.specs.Prelude.{◌≡◌, ◌⊎◌, ◌↔◌, ◌+◌, �
 ghost use Rattle.std.specs.List.{count_by, filter, sum_by};
 ghost use Rattle.std.specs.Path.{path_join};
 ghost use Rattle.std.specs.Str.{is_utf8};
+ghost use Rattle.pack_index.specs.Lazy.{seen};
 ghost use Rattle.pack_index.specs.declared.lazy_error.LazyError.{LazyError};
 ghost use Rattle.pack_index.specs.declared.lazy_error.LazyError.TheVariants as errors;
 ghost use Rattle.repositories.specs.Answers.{IfKnown};
 ghost use Rattle.repositories.specs.States.{IsSettled};
-ghost use Rattle.directory_store.specs.Packs.{AreIndexNames, AreIndexes, AreIndexesIn, AreOpenOrDamaged, ArePacks, IsDamagedAt, bytes_at, has_pack, index_in, packs_of, split_names, unnamed_in};
+ghost use Rattle.directory_store.specs.Packs.{AreIndexNames, AreIndexes, AreIndexesIn, AreOpenOrDamaged, ArePacks, IsDamagedAt, has_pack, index_in, packs_of, split_names, tables_at, tables_seen, unnamed_in};
 ghost use Rattle.directory_store.specs.Stores.{AreStatesOf, IsListedPack, IsIndexError, IsUnread, index_path, is_damage};
 
 use crate::error::Error;
@@ -339,9 +340,8 @@ pub(crate) fn open_indexes<R: StoreFiles>(
 ) -> Result<OpenIndexes<R>, Error>
     ensures kinds { IfOk result (λ opened. All (λ index. index.kind ≡ kind)
         opened.indexes.items) }
-    ensures contents { IfOk result (λ opened. IfKnown (λ at.
-        map (λ index. index.content) opened.indexes.items
-        ≡ map (bytes_at at) (map index_path opened.paths.items)) (R.answers rt.now)) }
+    ensures tables { IfOk result (λ opened. IfKnown (λ at. tables_seen opened.indexes.items
+        ≡ map (tables_at at kind) (map index_path opened.paths.items)) (R.answers rt.now)) }
     ensures all { IfOk result (λ opened. vec_len opened.indexes + vec_len opened.skipped
         ≡ length paths.now) }
     ensures paths { IfOk result (λ opened. opened.skipped.items ≡ []
@@ -369,9 +369,8 @@ fn open_all<R: StoreFiles>(
 ) -> Result<OpenIndexes<R>, Error>
     ensures kinds { IfOk result (λ opened. All (λ index. index.kind ≡ kind)
         opened.indexes.items) }
-    ensures contents { IfOk result (λ opened. IfKnown (λ at.
-        map (λ index. index.content) opened.indexes.items
-        ≡ map (bytes_at at) (map index_path opened.paths.items)) (R.answers rt.now)) }
+    ensures tables { IfOk result (λ opened. IfKnown (λ at. tables_seen opened.indexes.items
+        ≡ map (tables_at at kind) (map index_path opened.paths.items)) (R.answers rt.now)) }
     ensures all { IfOk result (λ opened. vec_len opened.indexes + vec_len opened.skipped
         ≡ length listed.now) }
     ensures paths { IfOk result (λ opened. opened.skipped.items ≡ []
@@ -413,8 +412,8 @@ fn open_pack_index<R: StoreFiles>(
 ) -> Result<LazyFile<R::Source>, Error>
     ensures kind { IfOk result (λ index. index.kind ≡ kind) }
     ensures path { IfOk result (λ index. index.path ≡ path.now) }
-    ensures content { IfOk result (λ index. IfKnown (λ at. index.content ≡ bytes_at at path.now)
-        (R.answers rt.now)) }
+    ensures tables { IfOk result (λ index. IfKnown (λ at. (seen index).tables
+        ≡ tables_at at kind path.now) (R.answers rt.now)) }
     ensures err { IfErr result (λ error. IsUnread error
         ⊎ ((fault : LazyError) × IsIndexError path.now fault error)) }
     ensures damage { IfErr result (λ error. is_damage error ≡ true

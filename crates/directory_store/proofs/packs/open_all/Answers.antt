@@ -1,16 +1,12 @@
 use Rattle.gix_hash.proofs.Std.{All, List, ℕ, ◌≡◌, ◌+◌, ◌++◌, ◌∷◌, [], ◌∙◌, ap, arith, get_or, length, map, refl, subst, sym, take, vec_len, All-push, map-append}
 use Rattle.std.proofs.lemmas.List.{map_more}
-use Rattle.pack_index.specs.Lazy.{LazyIndex}
-use Rattle.directory_store.specs.Packs.{AreOpenOrDamaged, IsDamagedAt, bytes_at}
+use Rattle.pack_index.specs.Lazy.{LazyIndex, seen}
+use Rattle.directory_store.specs.Packs.{AreOpenOrDamaged, IsDamagedAt, tables_at}
 use Rattle.directory_store.specs.Stores.{index_path}
 use Rattle.directory_store.proofs.Damage.{one_damaged, one_open}
+use Rattle.directory_store.proofs.Members.{one_more}
 use Rattle.directory_store.proofs.packs.open_all.Goals.{in-Ok+in_ok-copy-in-Ok+in_ok-push-in-Ok+in_ok-push-in-Ok-2, in-Err+in_ok-push-in-Err}
 use Rattle.directory_store.proofs.packs.open_all.Goals as goal
-
--- one more in each list, of which the same is said
-one_more : {X Y : Type 0} (f : Y → X) (g : LazyIndex → X) (ys : List Y) (indexes : List LazyIndex) (y : Y) (index : LazyIndex) → f y ≡ g index → map f ys ≡ map g indexes
-    → map f (ys ++ y ∷ []) ≡ map g (indexes ++ index ∷ [])
-one_more f g ys indexes y index is before = map-append f ys (y ∷ []) ∙ (λ i. before i ++ is i ∷ []) ∙ sym (map-append g indexes (index ∷ []))
 
 pub loop-at-preserved : goal.loop-at-preserved
 loop-at-preserved g c =
@@ -32,10 +28,10 @@ loop-at-preserved g c =
             kinds = rw w.indexes-is (subst (All IsOfKind) (sym w.in_ok-push-in-Ok-2.ensures.items) (All-push IsOfKind indexes w.in-Ok.index c.loop-at.invariant.kinds w.in-Ok.ensures.kind));
             of_paths = rw (w.paths-is, w.indexes-is, w.in_ok-push-in-Ok.ensures.items, w.in_ok-push-in-Ok-2.ensures.items)
                 (one_more index_path (λ (index : LazyIndex). index.path) paths indexes copy w.in-Ok.index (path ∙ sym w.in-Ok.ensures.path) c.loop-at.invariant.of_paths);
-            contents = λ at known. rw (w.paths-is, w.indexes-is, w.in_ok-push-in-Ok.ensures.items, w.in_ok-push-in-Ok-2.ensures.items) (sym (
-                ap (map (bytes_at at)) (map-append index_path paths (copy ∷ []))
-                ∙ one_more (bytes_at at) (λ (index : LazyIndex). index.content) (map index_path paths) indexes (index_path copy) w.in-Ok.index
-                (ap (bytes_at at) path ∙ sym (w.in-Ok.ensures.content at known)) (sym (c.loop-at.invariant.contents at known))
+            tables = λ at known. rw (w.paths-is, w.indexes-is, w.in_ok-push-in-Ok.ensures.items, w.in_ok-push-in-Ok-2.ensures.items) (sym (
+                ap (map (tables_at at c.args.kind)) (map-append index_path paths (copy ∷ []))
+                ∙ one_more (tables_at at c.args.kind) (λ (index : LazyIndex). (seen index).tables) (map index_path paths) indexes (index_path copy) w.in-Ok.index
+                (ap (tables_at at c.args.kind) path ∙ sym (w.in-Ok.ensures.tables at known)) (sym (c.loop-at.invariant.tables at known))
                 ));
             all = omega (arith, ap vec_len w.indexes-is, w.in_ok-push-in-Ok-2.ensures.len, ap vec_len w.skipped-is, c.loop-at.invariant.all);
             skipped = λ at known. rw (w.paths-is, w.skipped-is, w.in_ok-push-in-Ok.ensures.items) (
@@ -48,7 +44,7 @@ loop-at-preserved g c =
       | in-Err+in_ok-push-in-Err w ↦ record {
         kinds = rw w.indexes-is c.loop-at.invariant.kinds;
         of_paths = rw (w.paths-is, w.indexes-is) c.loop-at.invariant.of_paths;
-        contents = λ at known. rw (w.paths-is, w.indexes-is) (c.loop-at.invariant.contents at known);
+        tables = λ at known. rw (w.paths-is, w.indexes-is) (c.loop-at.invariant.tables at known);
         all = omega (arith, ap vec_len w.indexes-is, ap vec_len w.skipped-is, w.in_ok-push-in-Err.ensures.len, c.loop-at.invariant.all);
         skipped = λ at known.
             let error = w.in-Err.error in

@@ -6,7 +6,7 @@ use Rattle.repositories.specs.Walks.{with_alternates}
 use Rattle.directory_store.specs.Loose.{AreLoose}
 use Rattle.repositories.specs.Answers.{IfKnown}
 use Rattle.directory_store.specs.Opened.{AreLooseOf, AreSkipped}
-use Rattle.directory_store.specs.Packs.{AreOpenOrDamaged, ArePacks, packs_of, unnamed_in}
+use Rattle.directory_store.specs.Packs.{AreOpenOrDamaged, ArePacks, packs_of, tables_at, tables_seen, unnamed_in}
 use Rattle.directory_store.specs.Stores.{IsUnread, index_path, of_repository}
 use Rattle.directory_store.proofs.store.DirectoryStore.read.Given.{Over}
 use Rattle.directory_store.proofs.store.DirectoryStore.read.Goals.{In_ok-copy_of}
@@ -37,7 +37,8 @@ invariant_of-result-clause-are_opened g c = ∣ (λ none at known'.
           (c.in_ok-pack_directories.ensures ∙ ap (map (λ path. packs_of (string_bytes path))) c.deref.ensures.value ∙ sym (map-map packs_of string_bytes c.in_ok-directories.directories.paths.items))
           (c.in_ok-listed.ensures.packs at known);
       all = c.in_ok-opened.ensures.paths undamaged ∙ ap (map index_path) c.deref-3.ensures.value;
-      contents = c.in_ok-opened.ensures.contents at known;
+      tables = subst (λ kind. tables_seen c.in_ok-opened.opened.indexes.items ≡ map (tables_at at kind) (map index_path c.in_ok-opened.opened.paths.items)) (sym c.in_ok-copy_of.ensures.kind)
+          (c.in_ok-opened.ensures.tables at known);
     }) ∣₁
 
 pub invariant_of-result-clause-are_loose : goal.invariant_of-result-clause-are_loose

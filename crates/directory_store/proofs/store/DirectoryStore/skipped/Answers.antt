@@ -7,4 +7,4 @@ pub returns-clause-objects : goal.returns-clause-objects
 returns-clause-objects g c =
     let self = c.args.self.now in
     has_all (g.R.Directories.answers self.rt) self.directory (map string_bytes self.directories.paths.items) self.skipped.items (map index_path self.packs.items) self.indexes.items
-    self.loose self.loose_before.items self.of_kind self.are_opened self.are_loose
+    self.loose self.loose_before.items self.are_opened self.are_loose

@@ -19,6 +19,6 @@ returns-clause-reopened g c =
         λ none at known.
             moved at new.loose.which first.loose.which new.directory first.directory _ (opened.listed ∙ was.2) (opened.place ∙ was.0)
             (has_all (g.R.Directories.answers new.rt) new.directory (map string_bytes new.directories.paths.items) new.skipped.items (map index_path new.packs.items) new.indexes.items
-            new.loose new.loose_before.items new.of_kind new.are_opened new.are_loose (both_nil new.skipped_before.items new.skipped.items none).1 at (opened.answers ∙ was.1 ∙ known)),
+            new.loose new.loose_before.items new.are_opened new.are_loose (both_nil new.skipped_before.items new.skipped.items none).1 at (opened.answers ∙ was.1 ∙ known)),
       );
     }
