@@ -3,6 +3,7 @@
 # each other. tools/prove finds out by checksums whether it has to be, so make always calls it.
 PROGRAMS := oidtool packtool
 PREFIX ?= /usr/local
+LIBDIR ?= $(PREFIX)/lib
 # As many jobs as there are processors, and memory for: a crate may take 3 GB. But a -j of the caller's goes first: make sees to
 # that among its own words, and this to one in the environment, where a make that calls this one leaves it.
 MAKEFLAGS += --no-builtin-rules $(shell echo " $$MAKEFLAGS" | grep -qE ' -(-jobs|[a-z]*j)' || echo "-j$$(tools/jobs 3000 3000)")
@@ -41,6 +42,7 @@ help:
 	@echo 'make uninstall PREFIX=/usr/local: removes what was installed'
 	@echo 'make dist: makes archives for users without the kit, in out/dist'
 	@echo 'make clean: removes all that was built'
+	@echo 'LIBDIR=DIR puts the library and the file for pkg-config into DIR instead of PREFIX/lib'
 	@echo 'DESTDIR=DIR puts what is installed below DIR, to make a package of it'
 
 $(PROGRAMS): %: crates/%/out/built
@@ -84,16 +86,16 @@ docs:
 	tools/promises
 
 install: $(PROGRAMS) lib
-	tools/install '$(DESTDIR)' '$(PREFIX)'
+	tools/install '$(DESTDIR)' '$(PREFIX)' '$(LIBDIR)'
 
 install-lib: lib
-	tools/install --lib '$(DESTDIR)' '$(PREFIX)'
+	tools/install --lib '$(DESTDIR)' '$(PREFIX)' '$(LIBDIR)'
 
 dist: needs $(PROGRAMS) lib
 	tools/dist
 
 uninstall:
-	tools/install --remove '$(DESTDIR)' '$(PREFIX)'
+	tools/install --remove '$(DESTDIR)' '$(PREFIX)' '$(LIBDIR)'
 
 clean:
 	rm -rf crates/*/out out
