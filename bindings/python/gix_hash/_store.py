@@ -22,7 +22,7 @@ __all__ = ["Ambiguous", "Location", "Missing", "SkippedWarning", "Store", "Store
 
 _Digits = Union[str, Prefix, Id]
 _D = TypeVar("_D", bound=_Digits)
-# An empty line is no prefix, and only what is printed for it begins with a space. So that ends the reply to the lines before it.
+# An empty line is no prefix, and only what is printed for it begins with a space. So that ends the results of the lines before it.
 _MARK = b"\n bad\n"
 # How many lines packtool looks up at once beside an empty one, and as how many one of few digits counts, since it may find many
 # ids.
@@ -190,7 +190,7 @@ class _Process:
             self._unsent = self._unsent[:0]
 
     def receive(self) -> str:
-        """The reply to the first lines that were sent and have none yet. It reads while it cannot write, so neither waits for the
+        """The results of the first lines that were sent and have none yet. It reads while it cannot write, so neither waits for the
         other for ever. The error is EOFError if the process has ended."""
         self._check_owner()
         poll, start, got = select.poll(), 0, self._got
@@ -206,9 +206,9 @@ class _Process:
                 if not data:
                     raise EOFError
                 got += data
-        reply = os.fsdecode(bytes(got[1 : end + 1]))
+        results = os.fsdecode(bytes(got[1 : end + 1]))
         del got[: end + len(_MARK) - 1]
-        return reply
+        return results
 
     def blocks(self) -> Iterator[str]:
         """What it prints until it ends, in blocks of whole lines."""
@@ -219,7 +219,7 @@ class _Process:
             self._check_owner()
 
     def _check_owner(self) -> None:
-        """Fails after a fork, in the process that has not begun it: both would read parts of the same replies."""
+        """Fails after a fork, in the process that has not begun it: both would read parts of the same results."""
         if self._owner != os.getpid():
             raise StoreError("the look-up was begun before a fork, and goes on in the process that began it")
 
@@ -285,10 +285,10 @@ def _by_cost(pairs: Iterable[Tuple[_D, str]]) -> Iterator[List[Tuple[_D, str]]]:
     yield chunk
 
 
-def _ids_by_line(reply: str) -> Dict[str, List[Id]]:
+def _ids_by_line(results: str) -> Dict[str, List[Id]]:
     """What `find --stdin` prints, by the lines that it was asked."""
     found: Dict[str, List[Id]] = {}
-    words, of_key, from_hex = iter(reply.split()), Id._of_key, bytes.fromhex
+    words, of_key, from_hex = iter(results.split()), Id._of_key, bytes.fromhex
     for line, digits in zip(words, words):
         if digits == "missing":
             found[line] = []
@@ -400,7 +400,7 @@ class Store(contextlib.AbstractContextManager["Store"]):
         return new
 
     def _receive(self, process: _Process) -> Tuple[str, List[str]]:
-        """The next reply of a process, and what it has skipped."""
+        """The next results of a process, and what it has skipped."""
         with contextlib.suppress(EOFError):
             return process.receive(), self._new_skips(process)
         self._new_skips(process, has_ended=True)
@@ -409,16 +409,16 @@ class Store(contextlib.AbstractContextManager["Store"]):
     def _ask(self, command: str, line: str) -> List[str]:
         """The lines that a command prints for a line."""
         key = os.getpid(), command
-        # (a signal handler may ask within a question: it gets a process of its own)
+        # (a signal handler may ask within a request: it gets a process of its own)
         with self._locks.setdefault(key, threading.RLock()):
             process = None
             try:
                 process = self._idle.pop(key, None) or self._begin(command, "--stdin", is_bulk=False)
                 process.send(f"{line}\n")
-                reply, new = self._receive(process)
-                if not reply:
+                results, new = self._receive(process)
+                if not results:
                     raise StoreError("packtool printed too few lines")
-            except BaseException:  # (the rest of a reply would be taken for the next one)
+            except BaseException:  # (the rest of a result would be taken for the next one)
                 if process:
                     self._end(process)
                 raise
@@ -427,7 +427,7 @@ class Store(contextlib.AbstractContextManager["Store"]):
         if self._closed:
             self.close()
         _warn(new)
-        return reply.split("\n")[:-1]
+        return results.split("\n")[:-1]
 
     def _found(self, command: str, prefix: _Digits) -> List[str]:
         """What a command finds for a prefix, without the prefix before it."""
@@ -524,9 +524,9 @@ class Store(contextlib.AbstractContextManager["Store"]):
             self._end(process)
 
     def _found_many(self, process: _Process, chunk: List[Tuple[_D, str]]) -> Iterator[Tuple[_D, List[Id]]]:
-        reply, new = self._receive(process)
+        results, new = self._receive(process)
         _warn(new)
-        found = _ids_by_line(reply)
+        found = _ids_by_line(results)
         for prefix, line in chunk:
             _check(Code.PREFIX_TOO_LONG if len(line) > 2 * self._kind.len_in_bytes else 0, digits=line)
             if line not in found:

@@ -101,9 +101,9 @@ pub struct Store {
 
 const COMMANDS: [&str; 3] = ["find", "locate", "abbreviate"];
 const FIND: usize = 0;
-const WHERE: usize = 1;
-const NAMES: usize = 2;
-// An empty line is no prefix, and only what is printed for it begins with a space. So that ends the reply to the lines
+const LOCATE: usize = 1;
+const ABBREVIATE: usize = 2;
+// An empty line is no prefix, and only what is printed for it begins with a space. So that ends the results of the lines
 // before it.
 const MARK: &[u8] = b" bad";
 // How many lines are looked up at once beside an empty one, and as how many one counts by its number of digits.
@@ -173,7 +173,7 @@ impl Store {
 
     /// The locations of the objects whose ids begin with a prefix, in the order of the ids. An object may have several.
     pub fn locate(&self, prefix: &Prefix) -> Result<Vec<Location>> {
-        self.found(WHERE, prefix)?.iter().map(|found| self.location(found)).collect()
+        self.found(LOCATE, prefix)?.iter().map(|found| self.location(found)).collect()
     }
 
     fn location(&self, found: &[u8]) -> Result<Location> {
@@ -198,7 +198,7 @@ impl Store {
             return Err(self.missing(prefix));
         }
         let mut digits = id.to_string();
-        let name = self.ask(NAMES, &prefix)?.pop().ok_or_else(|| self.missing(prefix))?;
+        let name = self.ask(ABBREVIATE, &prefix)?.pop().ok_or_else(|| self.missing(prefix))?;
         digits.truncate(name.len().max(least));
         Ok(digits)
     }
@@ -273,7 +273,7 @@ impl Store {
         self.refusal(prefix).map_or_else(|| self.ask(command, prefix), Err)
     }
 
-    // The same for a prefix of 2 digits or more. A process in whose reply something fails is dropped, which ends it.
+    // The same for a prefix of 2 digits or more. A process in whose results something fails is dropped, which ends it.
     fn ask(&self, command: usize, prefix: &Prefix) -> Result<Vec<Vec<u8>>> {
         let asked = prefix.to_string();
         let mut resting = locked(&self.asked[command]);
@@ -285,18 +285,18 @@ impl Store {
             // (if this fails, the process has ended, and has said why)
             let _ = input.write_all(format!("{asked}\n\n").as_bytes());
         }
-        let (mut found, mut is_bad, mut is_answered) = (Vec::new(), false, false);
+        let (mut found, mut is_bad, mut has_result) = (Vec::new(), false, false);
         while let Some(line) = process.line()? {
             if line == MARK {
                 self.heed(&mut process)?;
-                if !is_answered {
+                if !has_result {
                     return Err(too_few_lines());
                 }
                 *resting = Some(process);
                 let error = Error { code: Code::PrefixTooLong, detail: 0 };
                 return if is_bad { Err(StoreError::Prefix { prefix: *prefix, error }) } else { Ok(found) };
             }
-            is_answered = true;
+            has_result = true;
             match line.strip_prefix(asked.as_bytes()).and_then(|rest| rest.strip_prefix(b" ")) {
                 Some(b"missing") => {}
                 Some(b"bad") => is_bad = true,
