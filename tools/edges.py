@@ -709,6 +709,10 @@ def odd_lines(room):
                 raise ValueError(f"git lists other ids with {line!r}")
             how = {"errors": errors, "cwd": repository, "around": POWERLESS}
             yield finds(f"alternates, {line!r} {'first' if order > 0 else 'last'}", [own, good], **how)
+    # (what is there, and may not be read, is not skipped)
+    write(repository / "objects" / "info" / "alternates", os.fsencode(f"{room}/good\n{room}/locked\n"))
+    why = f"{room}/locked/info/alternates: {LOCKED}"
+    yield fails("an alternate that may not be read", why, "find", "4b", cwd=repository, around=POWERLESS)
 
 
 def long_texts(room):
