@@ -1,0 +1,221 @@
+"""Stores that have a multi-pack-index made by git, for tools/stores: whole, damaged, cut off, of another store, and what is no file in
+its place; of packs of which one has gone, and one has come.
+
+In each row packtool prints what it prints of the same store without a multi-pack-index, with the same errors and the same status, and
+the ids that git finds with it are among these. (Git ends with an error at some, and misses what packs have that it does not cover.)
+A group of `GROUPS` yields its rows: a name, and what is wrong, if anything."""
+
+import os
+import shutil
+import time
+from collections import Counter
+
+from edges import SECONDS, SPARSE
+from gitstore import DIGITS, SETTLED, add_repository, changed, keep, listed, make_blobs, pack_objects, write
+from probe import POWERLESS, difference, git, ran
+from talks import ask, talk
+
+# How many blobs are packed and how many are loose, and of how many ids one is in one more pack, and one is asked for.
+PACKED, LOOSE, TWICE, ASKED = 900, 20, 50, 40
+# The lengths of the header of a multi-pack-index, of a row of its table of chunks, and of its fan-out table.
+HEADER, ROW, FAN_OUT = 12, 12, 1024
+# The most memory that a run takes beside a file that no memory holds, and how many seconds one that would wait for a pipe has.
+DATA, PATIENCE = 64 << 20, 10 * SECONDS
+
+
+class Store:
+    """A bare repository of four packs and loose objects, and what packtool prints of it without its multi-pack-index, which is put
+    there by each row."""
+
+    def __init__(self, program, path, kind, seed=0):
+        self.program, self.path, self.cwd = program, path, path
+        make_blobs(path, kind, packs=3, packed=PACKED, loose=LOOSE, seed=seed)
+        self.ids = listed(path)
+        pack_objects(path, self.ids[::TWICE], path / "objects" / "pack" / "pack")
+        git(path, "multi-pack-index", "write")
+        self.place = path / "objects" / "pack" / "multi-pack-index"
+        self.whole = self.place.read_bytes()
+        self.clear()
+        counts = Counter(id[:2] for id in self.ids)
+        most = max((id[:2] for id in self.ids[::TWICE]), key=counts.get)
+        shared = next(id[:4] for id, other in zip(self.ids, self.ids[1:]) if id[:4] == other[:4])
+        self.lines = [*(id[:12] for id in self.ids[::ASKED]), *(id.upper() for id in self.ids[:: 4 * TWICE]), shared, "0" * 12]
+        self.given = "".join(f"{line}\n" for line in self.lines).encode()
+        self.commands = [("find", most), ("find", "--stdin", "--one"), ("abbreviate", "--stdin"), ("locate", most)]
+        self.note()
+
+    def clear(self):
+        """Removes what is in the place of the multi-pack-index."""
+        if self.place.is_dir() and not self.place.is_symlink():
+            self.place.rmdir()
+        else:
+            self.place.unlink(missing_ok=True)
+
+    def put(self, content):
+        """Puts a file with these bytes there."""
+        self.clear()
+        self.place.write_bytes(content)
+
+    def printed(self, *around):
+        """What each command prints, its errors and its status."""
+        how = {"cwd": self.cwd, "given": self.given, "seconds": PATIENCE, "limits": [f"--data={DATA}", f"--cpu={SECONDS}"]}
+        return [ran(*around, self.program, *words, **how) for words in self.commands]
+
+    def note(self):
+        """Notes what is printed of the store as it is now without a multi-pack-index, which git prints then, too."""
+        self.clear()
+        self.wanted = self.printed()
+        if self.by_git() != (self.wanted[1][0], 0):
+            raise ValueError("git finds other ids where there is no multi-pack-index")
+
+    def by_git(self):
+        """What git finds for the lines, and its status."""
+        found, _, status = ran("git", "cat-file", "--batch-check=%(objectname)", cwd=self.cwd, given=self.given)
+        return found, status
+
+    def row(self, name, *around, is_asked=True):
+        """A row of what is there now. Git is not asked if it would wait."""
+        wrong = next(filter(None, map(difference, self.printed(*around), self.wanted)), None)
+        found, status = self.by_git() if is_asked else ("", 1)
+        if not wrong and status == 0:
+            lost = {*found.split()} & {*self.ids} - {*self.wanted[1][0].split()}
+            wrong = f"git finds {min(lost)}" if lost else None
+        return name, wrong
+
+
+def size_of_tables(whole):
+    """The length of the header and of the table of chunks, which ends with a row for their end."""
+    return HEADER + ROW * (whole[6] + 1)
+
+
+def damaged_bytes(program, room, kind):
+    """A multi-pack-index with another byte in its header or in its table of chunks, each in turn: its lowest bit, and all its bits."""
+    store = Store(program, room / kind, kind)
+    for at in range(size_of_tables(store.whole)):
+        for bits in 1, 0xFF:
+            store.put(changed(store.whole, at, store.whole[at] ^ bits))
+            yield store.row(f"byte {at} of a multi-pack-index, changed by {bits:#x}")
+
+
+def cut_off(program, room, kind):
+    """A multi-pack-index that ends too early, at and beside each of its parts, or too late."""
+    store = Store(program, room / kind, kind)
+    whole, top = store.whole, size_of_tables(store.whole)
+    starts = [int.from_bytes(whole[at + 4 : at + ROW], "big") for at in range(HEADER, top, ROW)]
+    sizes = {0, 1, 4, 8, HEADER, HEADER + ROW, top - ROW, top, *starts, starts[1] + FAN_OUT // 2, len(whole) - 1, len(whole) // 2}
+    sizes |= {size + by for size in (HEADER, top, *starts) for by in (-1, 1)}
+    for size in sorted(size for size in sizes if size < len(whole)):
+        store.put(whole[:size])
+        yield store.row(f"the first {size} of {len(whole)} bytes of a multi-pack-index")
+    for name, content in ("a byte more", whole + b"\0"), ("its bytes twice", whole * 2), ("zeros", bytes(len(whole))):
+        store.put(content)
+        yield store.row(f"a multi-pack-index of {name}")
+
+
+def other_forms(program, room, kind):
+    """What is in the place of a multi-pack-index, in a store and in its alternate: a file of another store, and what is no file."""
+    store = Store(program, room / kind, kind)
+    (other,) = {*DIGITS} - {kind}
+    files = {f"of the kind {other}": Store(program, room / other, other, seed=1).whole, "of another store": Store(program, room / "own", kind, seed=2).whole}
+    write(room / "kept", store.whole)
+    write(room / "locked" / "multi-pack-index", store.whole)
+    (room / "locked").chmod(0)
+    links = {"a link": room / "kept", "a relative link": os.path.relpath(room / "kept", store.place.parent), "a dangling link": "gone"}
+    links |= {"a link to itself": "multi-pack-index", "a link without an end": "/dev/zero", "a link that may not be followed": room / "locked" / "multi-pack-index"}
+    borrowing = room / "borrowing"
+    add_repository(borrowing, kind)
+    write(borrowing / "objects" / "info" / "alternates", os.fsencode(f"{store.path}/objects\n"))
+    for where, cwd in ("", store.path), (" of an alternate", borrowing):
+        store.cwd = cwd
+        store.note()
+        for name, content in files.items():
+            store.put(content)
+            yield store.row(f"a multi-pack-index{where}: {name}")
+        for name, target in links.items():
+            store.clear()
+            store.place.symlink_to(target)
+            yield store.row(f"a multi-pack-index{where}: {name}", *POWERLESS)
+        store.clear()
+        store.place.mkdir()
+        yield store.row(f"a multi-pack-index{where}: a directory")
+        store.clear()
+        os.mkfifo(store.place)
+        yield store.row(f"a multi-pack-index{where}: a pipe", is_asked=False)
+        for name, content in ("that goes on", store.whole), ("of zeros", b""):
+            store.put(content)
+            os.truncate(store.place, SPARSE)
+            yield store.row(f"a multi-pack-index{where}: a sparse file {name}")
+        store.put(store.whole)
+        store.place.chmod(0)
+        yield store.row(f"a multi-pack-index{where}: a file that may not be read", *POWERLESS)
+        write(store.path / "objects" / "pack" / "multi-pack-index.d" / "multi-pack-index-chain", b"0" * DIGITS[kind] + b"\n")
+        yield store.row(f"a multi-pack-index{where}: a list of a chain beside it")
+        shutil.rmtree(store.path / "objects" / "pack" / "multi-pack-index.d")
+    (room / "locked").chmod(0o700)
+
+
+def other_packs(program, room, kind):
+    """A multi-pack-index of which each pack, its index or both have gone or have another name, or to which a pack has come; and two
+    multi-pack-indexes, in a store and in its alternate."""
+    store = Store(program, room / kind, kind)
+    store.put(store.whole)
+    yield store.row("a whole multi-pack-index")
+    packs = sorted((store.path / "objects" / "pack").glob("*.pack"))
+    for number, pack in enumerate(packs):
+        index = pack.with_suffix(".idx")
+        for what, paths in ("pack", [pack]), ("index", [index]), ("pack and index", [pack, index]):
+            for path in paths:
+                path.rename(room / path.name)
+            store.note()
+            store.put(store.whole)
+            yield store.row(f"the {what} of pack {number} of a multi-pack-index, gone")
+            for path in paths:
+                (room / path.name).rename(path)
+        for path in (pack, index):
+            path.rename(path.with_stem("pack-0"))
+        store.note()
+        store.put(store.whole)
+        yield store.row(f"pack {number} of a multi-pack-index, by another name")
+        for path in (pack, index):
+            path.with_stem("pack-0").rename(path)
+    more = Store(program, room / "more", kind, seed=1)
+    for path in sorted((more.path / "objects" / "pack").glob("*.*"), reverse=True):
+        os.link(path, store.place.with_name(path.name))
+    store.lines += more.lines
+    store.given += more.given
+    store.note()
+    store.put(store.whole)
+    yield store.row("a multi-pack-index, and packs more")
+    write(store.path / "objects" / "info" / "alternates", os.fsencode(f"{more.path}/objects\n"))
+    store.note()
+    store.put(store.whole)
+    more.put(more.whole)
+    yield store.row("a multi-pack-index, and another one of an alternate")
+
+
+def asked_again(program, room, kind):
+    """Requests to a packtool that is kept running, as a multi-pack-index comes, changes and goes, and git packs the store again."""
+    for at, words in enumerate([("find", "--one"), ("abbreviate",)]):
+        store = Store(program, room / words[0], kind)
+        wanted, title = store.wanted[at + 1][0].encode(), f"{' '.join(words)} --stdin, after a multi-pack-index"
+        keep(store.path)
+        with talk(program, store.path, *words) as child:
+            for name, content in [
+                ("none", None),
+                ("one that comes", store.whole),
+                ("one with another version", changed(store.whole, 4, 9)),
+                ("one that is cut off", store.whole[: len(store.whole) // 2]),
+                ("one that is whole again", store.whole),
+                ("one that goes", None),
+            ]:
+                store.put(content) if content else store.clear()
+                time.sleep(SETTLED)
+                yield f"{title}: {name}", ask(child, store.given, wanted)
+            store.put(store.whole)
+            git(store.path, "repack", "-adq")
+            yield f"{title}: git repack -ad, which removes it", ask(child, store.given, wanted) or (store.place.exists() and "it is there") or None
+            store.put(store.whole)
+            yield f"{title}: one of packs that are gone", ask(child, store.given, wanted)
+
+
+GROUPS = [damaged_bytes, cut_off, other_forms, other_packs, asked_again]
