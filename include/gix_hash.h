@@ -4,7 +4,7 @@
  * cc program.c $(pkg-config --cflags --libs gix_hash).
  *
  * A len is a number of bytes, a hex_len a number of hex digits, of which a byte has two. A position
- * counts from 0. A text is chars, of which each is a byte, with their len.
+ * counts from 0. A text is a pointer to chars and their number, len.
  *
  * SHA-1 is computed without the detection of collisions that Git has: where others make the bytes, an
  * equal id does not prove that they are equal.
@@ -139,8 +139,7 @@ typedef struct gix_hash_hasher {
 } gix_hash_hasher;
 
 /* Returns the version of the library that is linked: 10,000 times the first number of GIX_HASH_VERSION,
- * 100 times the second, and the third. A version that ends in -dev has the numbers of the release that
- * it becomes. */
+ * 100 times the second, and the third: 10203 for 1.2.3, and also for 1.2.3-dev. */
 uint32_t gix_hash_version(void);
 
 /* Reads an id from a text of 40 or 64 hex digits in either case. No zero has to end it.
