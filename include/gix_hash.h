@@ -22,6 +22,15 @@
  * A function that returns a code returns GIX_HASH_OK if it succeeds. Otherwise it returns the first code
  * in its list that applies, and writes nothing. The two exceptions are *at of gix_hash_check_sorted and
  * *detail of gix_hash_pack_check, which say more about the code.
+ *
+ * For example, this finds the objects of a pack index of len bytes whose ids begin with 4b82. If code is
+ * GIX_HASH_OK then, they are at the positions from run.start on, before run.end:
+ *
+ *     gix_hash_prefix prefix = {0};
+ *     gix_hash_run run = {0};
+ *     uint32_t kind = 0, code = gix_hash_pack_kind(bytes, len, &kind);
+ *     if (!code) code = gix_hash_prefix_from_hex("4b82", 4, &prefix);
+ *     if (!code) code = gix_hash_pack_find(kind, bytes, len, &prefix, &run);
  */
 #ifndef GIX_HASH_H
 #define GIX_HASH_H
