@@ -28,7 +28,7 @@ class Store:
     there by each row."""
 
     def __init__(self, program, path, kind, seed=0):
-        self.program, self.path, self.cwd = program, path, path
+        self.program, self.path, self.cwd, self.limits = program, path, path, ()
         make_blobs(path, kind, packs=3, packed=PACKED, loose=LOOSE, seed=seed)
         self.ids = listed(path)
         pack_objects(path, self.ids[::TWICE], path / "objects" / "pack" / "pack")
@@ -58,7 +58,7 @@ class Store:
 
     def printed(self, *around):
         """What each command prints, its errors and its status."""
-        how = {"cwd": self.cwd, "given": self.given, "seconds": PATIENCE, "limits": [f"--data={DATA}", f"--cpu={SECONDS}"]}
+        how = {"cwd": self.cwd, "given": self.given, "seconds": PATIENCE, "limits": self.limits}
         return [ran(*around, self.program, *words, **how) for words in self.commands]
 
     def note(self):
@@ -89,10 +89,11 @@ def size_of_tables(whole):
 
 
 def damaged_bytes(program, room, kind):
-    """A multi-pack-index with another byte in its header or in its table of chunks, each in turn: its lowest bit, and all its bits."""
+    """A multi-pack-index with another byte in its header or in its table of chunks, each in turn: all its bits are changed, and of SHA-1
+    also its lowest bit alone."""
     store = Store(program, room / kind, kind)
     for at in range(size_of_tables(store.whole)):
-        for bits in 1, 0xFF:
+        for bits in (0xFF, 1) if kind == "sha1" else (0xFF,):
             store.put(changed(store.whole, at, store.whole[at] ^ bits))
             yield store.row(f"byte {at} of a multi-pack-index, changed by {bits:#x}")
 
@@ -126,7 +127,7 @@ def other_forms(program, room, kind):
     add_repository(borrowing, kind)
     write(borrowing / "objects" / "info" / "alternates", os.fsencode(f"{store.path}/objects\n"))
     for where, cwd in ("", store.path), (" of an alternate", borrowing):
-        store.cwd = cwd
+        store.cwd, store.limits = cwd, [f"--data={DATA}", f"--cpu={SECONDS}"]
         store.note()
         for name, content in files.items():
             store.put(content)
