@@ -13,7 +13,7 @@ from pathlib import Path
 import made
 from gitstore import (CONFIGS, DATA, DIGITS, HEAD, SHA256, add_objects, add_pack, add_repository, changed, digest_of, index_of, listed,
                       pack_index, plain_index, sealed, shortest, sorted_ids, write)
-from probe import POWERLESS, git
+from probe import POWERLESS, git, ran
 
 NO_FILE = "No such file or directory (os error 2)"
 LOOP = "Too many levels of symbolic links (os error 40)"
@@ -505,7 +505,8 @@ def links_among_others(room):
 
 
 def faulty(room):
-    """Repositories in which git finds none either, and the error of each; and a directory that was removed."""
+    """Repositories in which git finds none either, and the error of each; a directory that was removed; and repositories of which a part
+    cannot be read, or names no directory, where git takes the one above."""
     add_repository(room / "r")
     write(room / "r" / "worktrees" / "empty" / "commondir")
     write(room / "r" / "worktrees" / "empty" / "HEAD", HEAD)
@@ -519,6 +520,18 @@ def faulty(room):
     gone = ("sh", "-c", 'mkdir gone && cd gone && rmdir ../gone && "$@"', "sh")
     yield fails("a directory that was removed", f".: {NO_FILE}", "find", "4b", cwd=room, around=gone)
     yield prints("$GIT_DIR in it", [], "find", "4b", status=1, cwd=room, around=gone, env={"GIT_DIR": str(room / "r")})
+    add_repository(room / ".git")
+    for part, path, why in [("HEAD", "HEAD", LOCKED), ("objects", "objects/info/alternates", LOCKED), (".git", ".git/HEAD", LOCKED), ("commondir", "none", NO_FILE)]:
+        directory = room / f"inner {part}"
+        add_repository(directory / part if part == ".git" else directory)
+        if part == "commondir":
+            write(directory / part, b"none\n")
+        else:
+            (directory / part).chmod(0)
+        if ran(*POWERLESS, "git", "rev-parse", "--git-dir", cwd=directory)[0] != f"{room}/.git\n":
+            raise ValueError(f"git does not go on where {part} is wrong")
+        yield fails(f"a repository in another one, {part}", f"{directory}/{path}: {why}", "find", "4b", cwd=directory, around=POWERLESS)
+        (directory / part).chmod(0o700)
 
 
 def later_configs(room):
