@@ -4,11 +4,12 @@ use Rattle.std.proofs.lemmas.Result.{IfOk-weaker}
 use Rattle.gix_hash.specs.declared.Kind.{Kind}
 use Rattle.packtool.specs.Verdicts.{IsVerdictOn, IsVerdictOnSome}
 use Rattle.packtool.specs.declared.files.Verdict.{Verdict}
-use Rattle.packtool.specs.declared.files.Verdict.TheVariants.{Alone, Ends, Faulty, Paired, Skipped}
+use Rattle.packtool.specs.declared.files.Verdict.TheVariants.{Alone, Ends, Faulty, FaultyMulti, Paired, Skipped}
 
 on-some : (kind : Option Kind) (bytes : List ℕ) (said : Verdict) → IsVerdictOn kind bytes said → IsVerdictOnSome kind said
 on-some kind bytes Skipped is = absurd is
 on-some kind bytes (Ends ending) is = absurd is
+on-some kind bytes (FaultyMulti fault) is = absurd is
 on-some kind bytes (Faulty error) is = (bytes, is)
 on-some kind bytes Alone is = (bytes, is)
 on-some kind bytes (Paired pairing) is = (bytes, is)

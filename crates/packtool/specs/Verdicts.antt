@@ -1,23 +1,31 @@
 -- What contracts say of checked files.
-use Rattle.std.specs.Prelude.{ℕ, ◌≡◌, ◌≢◌, ◌↔◌, ◌++◌, ◌∷◌, [], Bool, List, None, Option, Some, codes, false, max}
+use Rattle.std.specs.Prelude.{ℕ, ◌≡◌, ◌≢◌, ◌↔◌, ◌++◌, ◌∷◌, [], Bool, List, None, Option, Some, codes, false, max, string_bytes}
 use Rattle.std.specs.Io.KnownBytes.{Appends}
 use Rattle.gix_hash.specs.declared.Kind.{Kind}
 use Rattle.gix_hash.specs.declared.Kind.TheVariants.{Sha1, Sha256}
+use Rattle.gix_hash.specs.declared.ObjectId.{ObjectId}
+use Rattle.gix_hash.specs.Kinds.{name_of}
 use Rattle.pack_index.specs.Format.{IndexFile}
+use Rattle.pack_index.specs.Multi.{IsReadAsMulti}
+use Rattle.pack_index.specs.declared.layout.Layout.{Layout}
 use Rattle.packtool.specs.declared.arguments.FileCommand.{FileCommand}
 use Rattle.packtool.specs.declared.arguments.FileCommand.TheVariants.{Check, Show}
 use Rattle.packtool.specs.declared.files.Verdict.{Verdict}
-use Rattle.packtool.specs.declared.files.Verdict.TheVariants.{Alone, Ends, Faulty, Paired, Skipped}
-use Rattle.packtool_commands.specs.Files.{IsOpenedAs, IsRefusalAs, file_line, pairing_verdict, verdict}
+use Rattle.packtool.specs.declared.files.Verdict.TheVariants.{Alone, Ends, Faulty, FaultyMulti, Paired, Skipped}
+use Rattle.packtool.specs.declared.multi.Fault.{Fault}
+use Rattle.packtool.specs.declared.multi.Fault.TheVariants as faults
+use Rattle.packtool_commands.specs.Files.{IsOpenedAs, IsRefusalAs, file_line, hex_of, pairing_verdict, verdict}
 use Rattle.packtool_commands.specs.declared.pairing.Pairing.TheVariants.{Same}
 use Rattle.streams.specs.Streams.{HasEnding, HasEndingOfEither}
 use Rattle.streams.specs.declared.checking.Ending.{Ending}
 use Rattle.streams.specs.declared.checking.Ending.TheVariants.{Sealed}
 
--- a file passed its check: it ends with its digest, or is a pack index that belongs to the pack beside it, if there is one; or it has no digest
+-- a file passed its check: it ends with its digest, and has no fault as a multi-pack-index; or it is a pack index that belongs to the pack beside it, if there is
+-- one; or it has no digest
 abbrev pub IsRight : Verdict → Type 0
 IsRight Skipped = Unit {0}
 IsRight (Ends ending) = (id : _) × (ending ≡ Sealed id)
+IsRight (FaultyMulti fault) = ⊥
 IsRight (Faulty error) = ⊥
 IsRight Alone = Unit {0}
 IsRight (Paired pairing) = pairing ≡ Same
@@ -26,6 +34,7 @@ IsRight (Paired pairing) = pairing ≡ Same
 abbrev pub IsVerdictOn : Option Kind → List ℕ → Verdict → Type 0
 IsVerdictOn kind bytes Skipped = ⊥
 IsVerdictOn kind bytes (Ends ending) = ⊥
+IsVerdictOn kind bytes (FaultyMulti fault) = ⊥
 IsVerdictOn kind bytes (Faulty error) = IsRefusalAs kind bytes error
 IsVerdictOn kind bytes Alone = (file : IndexFile) × IsOpenedAs kind bytes file
 IsVerdictOn kind bytes (Paired pairing) = (file : IndexFile) × IsOpenedAs kind bytes file
@@ -35,16 +44,31 @@ abbrev pub IsEnding : Option Kind → List ℕ → Ending → Type 0
 IsEnding None bytes ending = HasEndingOfEither Sha1 Sha256 bytes ending
 IsEnding (Some kind) bytes ending = HasEnding kind bytes ending
 
--- a verdict is on some bytes, unless it says that the file has no digest
+-- a verdict is on some bytes, unless it says that the file has no digest; a multi-pack-index that has a fault ends with its digest
 abbrev pub IsVerdictOnSome : Option Kind → Verdict → Type 0
 IsVerdictOnSome kind Skipped = Unit {0}
 IsVerdictOnSome kind (Ends ending) = (bytes : List ℕ) × (read : Option Kind) × IsEnding read bytes ending
+IsVerdictOnSome kind (FaultyMulti fault) = (bytes : List ℕ) × (read : Option Kind) × (id : ObjectId) × IsEnding read bytes (Sealed id)
 IsVerdictOnSome kind said = (bytes : List ℕ) × IsVerdictOn kind bytes said
+
+-- the bytes are read as a multi-pack-index
+abbrev pub IsMulti : List ℕ → Type 0
+IsMulti bytes = (kind : Kind) × (layout : Layout) × (names : List ℕ) × IsReadAsMulti kind bytes layout names
+
+-- why a multi-pack-index is wrong
+abbrev pub why_of : Fault → List ℕ
+why_of faults.Chunks = codes "its header, its table of chunks or a chunk is wrong"
+why_of (faults.OtherKind kind) = codes "its ids are of the kind " ++ name_of kind
+why_of faults.FanOut = codes "its fan-out table is wrong"
+why_of faults.Order = codes "its ids are not in order"
+why_of (faults.Lacks id name) = codes "it lacks " ++ (hex_of id ++ (codes " of " ++ string_bytes name))
+why_of (faults.InNoPack id) = hex_of id ++ codes " is in none of its packs"
 
 -- what is printed after the name of a file
 abbrev pub IsLineEnd : Verdict → List ℕ → Type 0
 IsLineEnd Skipped text = text ≡ codes ": SKIPPED: it has no digest" ++ 10 ∷ []
 IsLineEnd (Ends ending) text = text ≡ verdict ending
+IsLineEnd (FaultyMulti fault) text = text ≡ codes ": FAILED: " ++ why_of fault ++ 10 ∷ []
 IsLineEnd (Faulty error) text = (why : List ℕ) × (text ≡ codes ": FAILED: " ++ why ++ 10 ∷ [])
 IsLineEnd Alone text = text ≡ codes ": OK" ++ 10 ∷ []
 IsLineEnd (Paired pairing) text = text ≡ pairing_verdict pairing

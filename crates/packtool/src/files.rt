@@ -3,6 +3,7 @@
 ghost use Rattle.std.specs.Prelude.{◌≡◌, ◌≢◌, ◌↔◌, ◌+◌, ◌*◌, ◌≤◌, ◌++◌, ◌∷◌, ◌⊎◌, ℕ, [], List, Ok, Some, codes, false, length, take, true, IfOk, IfSome, IsTrue, MatchOption, OnOk, string_bytes};
 ghost use Rattle.std.specs.Io.{StartsWith};
 ghost use Rattle.std.specs.Option.{ForSome};
+ghost use Rattle.std.specs.Path.{path_file_name};
 ghost use Rattle.pack_index.specs.Format.{ids_start, num_objects};
 ghost use Rattle.store_questions.specs.Failures.{IsAt};
 ghost use Rattle.packtool.specs.Verdicts.{HasWrittenVerdict, IsEnding, IsRight, IsVerdictOn, IsVerdictOnSome};
@@ -12,6 +13,7 @@ ghost use Rattle.streams.specs.Devices.{plain_error, plain_failed, plain_inner};
 ghost use Rattle.streams.specs.Streams.{HasReadAll, IsReadAt};
 ghost use Rattle.streams.specs.declared.checking.Ending.{Ending};
 
+use crate::multi::{Fault, fault_in, kind_of, why_of};
 use crate::progress::Watched;
 use gix_hash::Kind;
 use pack_index::tables::{IDS_START, num_objects};
@@ -23,12 +25,18 @@ use repositories::{metadata, retried};
 use std::alloc::{AllocError, Global};
 use std::fs::File;
 use std::io::{self, Cursor, Read, Seek, SeekFrom};
+use std::path::Path;
 use std::time::Instant;
 use store_questions::{Failure, FileWhy, expect_text, file_failure as failure};
 use streams::{Ending, PipeError, Plain, ReadAt, Retrying, Source, check_either, check_seal};
 
 // How a pack index begins, of version 2 and later.
 const MAGIC: [u8; 4] = *b"\xfftOc";
+
+// How a multi-pack-index begins, and its name.
+const MULTI_MAGIC: [u8; 4] = *b"MIDX";
+
+const MULTI_NAME: &str = "multi-pack-index";
 
 // How the names of pack indexes end, and of packs.
 const INDEX_END: &str = ".idx";
@@ -93,6 +101,8 @@ enum Verdict {
     Skipped,
     // It is not a pack index, and ends in this way.
     Ends(Ending),
+    // It is a multi-pack-index that ends with its digest, and is wrong for this reason.
+    FaultyMulti(Fault),
     // It is a pack index that is not sound, for this reason.
     Faulty(pack_index::Error),
     // It is a sound pack index, and there is no pack beside it.
@@ -104,6 +114,7 @@ enum Verdict {
 /// Prints whether a file passes its check, and returns the same. A pack index has to be sound and
 /// to belong to the pack beside it, and any other file has to end with its digest. A file that Git
 /// writes without a digest is skipped, and passes. If the output failed before, nothing is printed.
+/// A multi-pack-index also has to be sound, and to have the ids of the pack indexes that it names.
 ///
 /// If no kind is given, a file may end with the digest of either kind, and the length of a pack
 /// index says its kind. A file that does not end with its SHA-1 is read twice, and standard input
@@ -137,7 +148,7 @@ fn is_right(verdict: &Verdict) -> bool
     match verdict {
         Verdict::Skipped | Verdict::Alone | Verdict::Paired(Pairing::Same) => true,
         Verdict::Ends(ending) => is_sealed(ending),
-        Verdict::Faulty(_) | Verdict::Paired(_) => false,
+        Verdict::Faulty(_) | Verdict::FaultyMulti(_) | Verdict::Paired(_) => false,
     }
 }
 
@@ -157,6 +168,10 @@ fn write_verdict<'a, W: io::Write>(
         Verdict::Ends(ending) => write_ending(path, ending, out),
         Verdict::Faulty(error) => {
             let end = fault_end(rt.alloc(), &format!(in rt.alloc(); "{error}")?)?;
+            write_named(path, end.as_bytes(), out)
+        }
+        Verdict::FaultyMulti(fault) => {
+            let end = fault_end(rt.alloc(), &why_of(rt.alloc(), fault)?)?;
             write_named(path, end.as_bytes(), out)
         }
         Verdict::Alone => write_named(path, b": OK\n", out),
@@ -188,6 +203,12 @@ fn verdict_of_input<'a>(
     let mut reader = Watched::new(rt, path, 0, due, rt.reader());
     let mut bytes = Vec::new(rt.alloc());
     read_more(rt, path, &mut reader, IDS_START as u64, &mut bytes)?;
+    if is_multi(rt, &&bytes[..], path)? {
+        read_more(rt, path, &mut reader, u64::MAX, &mut bytes)?;
+        let read = kind_of(&&bytes[..], kind);
+        let ending = ending_of(rt, &mut &bytes[..], path, read)?;
+        return verdict_of_multi(rt, path, &bytes[..], kind, ending);
+    }
     if !is_index(rt, &&bytes[..], path)? {
         let mut input = Cursor::new(&bytes[..]).chain(reader);
         return Ok(Verdict::Ends(ending_of(rt, &mut input, path, kind)?));
@@ -195,6 +216,26 @@ fn verdict_of_input<'a>(
     let rest = most_after(&bytes).saturating_add(1);
     read_more(rt, path, &mut reader, rest, &mut bytes)?;
     verdict_of_index(rt, path, &bytes, kind)
+}
+
+// The verdict on a multi-pack-index, which ends in this way.
+fn verdict_of_multi<'a, S: ReadAt + Drop>(
+    rt: &HostRuntime,
+    path: &str,
+    source: S,
+    kind: Option<Kind>,
+    ending: Ending,
+) -> Result<Verdict, Failure<'a>>
+    requires { (bytes : List ℕ) × (read : _) × IsEnding read bytes ending }
+    ensures { IfOk result (IsVerdictOnSome kind) }
+{
+    if !is_sealed(&ending) {
+        return Ok(Verdict::Ends(ending));
+    }
+    match fault_in(rt, path, source, kind)? {
+        Some(fault) => Ok(Verdict::FaultyMulti(fault)),
+        None => Ok(Verdict::Ends(ending)),
+    }
 }
 
 // Reads at most so many bytes, and appends them to those that were read before.
@@ -244,10 +285,14 @@ fn verdict_of_file<'a>(
     if has_no_digest(path) {
         return Ok(Verdict::Skipped);
     }
-    let is_index = is_index(rt, &file, path)?;
     let len = due.and_then(|_| file.len().ok()).unwrap_or(0);
-    let mut reader = Watched::new(rt, path, len, due, file);
-    if !is_index {
+    let mut reader = Watched::new(rt, path, len, due, &file);
+    if is_multi(rt, &file, path)? {
+        let ending = ending_in(rt, &mut reader, path, kind_of(&file, kind))?;
+        drop(reader);
+        return verdict_of_multi(rt, path, file, kind, ending);
+    }
+    if !is_index(rt, &file, path)? {
         return Ok(Verdict::Ends(ending_in(rt, &mut reader, path, kind)?));
     }
     let mut bytes = Vec::new(rt.alloc());
@@ -315,6 +360,22 @@ fn is_index<'a, S: ReadAt>(rt: &HostRuntime, source: &S, path: &str) -> Result<b
         Ok(()) => Ok(magic == MAGIC),
         Err(error) if error.kind() == io::ErrorKind::UnexpectedEof => Ok(false),
         Err(error) => Err(failure(rt, path, FileWhy::Read(error))),
+    }
+}
+
+// Whether the name is that of a multi-pack-index, or the bytes begin as one under another name than
+// that of a pack index.
+fn is_multi<'a, S: ReadAt>(rt: &HostRuntime, source: &S, path: &str) -> Result<bool, Failure<'a>>
+    ensures { (bytes : List ℕ) → S.content source.now ≡ Some bytes → result ≡ Ok true
+        → (path_file_name path.now ≡ Some MULTI_NAME.now) ⊎ IsReadAt bytes 0 MULTI_MAGIC }
+{
+    let mut magic = [0; MULTI_MAGIC.len()];
+    match source.read_exact_at(&mut magic, 0) {
+        Ok(()) if magic == MULTI_MAGIC && !path.ends_with(INDEX_END) => Ok(true),
+        Err(error) if error.kind() != io::ErrorKind::UnexpectedEof => {
+            Err(failure(rt, path, FileWhy::Read(error)))
+        }
+        _ => Ok(Path::new(path).file_name() == Some(MULTI_NAME)),
     }
 }
 
@@ -419,8 +480,8 @@ fn open<'a>(rt: &HostRuntime, path: &str) -> Result<File, Failure<'a>>
     }
 }
 
-// Opens a regular file, and nothing else: opening a pipe would wait for a writer.
-fn open_regular(rt: &HostRuntime, path: &str) -> Result<File, FileWhy> {
+/// Opens a regular file, and nothing else: opening a pipe would wait for a writer.
+pub fn open_regular(rt: &HostRuntime, path: &str) -> Result<File, FileWhy> {
     if !metadata(rt, path)?.is_file() {
         return Err(FileWhy::NotRegular);
     }

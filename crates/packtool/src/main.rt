@@ -14,6 +14,7 @@ ghost use Rattle.streams.specs.Devices.{plain_failed, plain_inner};
 
 mod arguments;
 mod files;
+mod multi;
 mod progress;
 mod words;
 
