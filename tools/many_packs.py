@@ -1,5 +1,5 @@
 """Stores that have a multi-pack-index made by git, for tools/stores: whole, damaged, cut off, of another store, and what is no file in
-its place; of packs of which one has gone, and one has come.
+its place; of packs of which one has gone, and one has come, and whose indexes are not read.
 
 In each row packtool prints what it prints of the same store without a multi-pack-index, with the same errors and the same status, and
 the ids that git finds with it are among these. (Git ends with an error at some, and misses what packs have that it does not cover.)
@@ -9,6 +9,7 @@ import os
 import shutil
 import time
 from collections import Counter
+from concurrent.futures import ThreadPoolExecutor
 
 from edges import SECONDS, SPARSE
 from gitstore import DIGITS, SETTLED, add_repository, changed, keep, listed, make_blobs, pack_objects, write
@@ -17,6 +18,8 @@ from talks import ask, talk
 
 # How many blobs are packed and how many are loose, and of how many ids one is in one more pack, and one is asked for.
 PACKED, LOOSE, TWICE, ASKED = 900, 20, 50, 40
+# How often packs are made, and packed into one.
+MOVES = 12
 # The lengths of the header of a multi-pack-index, of a row of its table of chunks, and of its fan-out table.
 HEADER, ROW, FAN_OUT = 12, 12, 1024
 # The most memory that a run takes beside a file that no memory holds, and how many seconds one that would wait for a pipe has.
@@ -194,6 +197,21 @@ def other_packs(program, room, kind):
     yield store.row("a multi-pack-index, and another one of an alternate")
 
 
+def read_instead(program, room, kind):
+    """A multi-pack-index that is read in place of the pack indexes that it names, of which zeros have the places then; `locate` reads them."""
+    store = Store(program, room / kind, kind)
+    located = store.commands.pop()
+    store.note()
+    for path in sorted((store.path / "objects" / "pack").glob("*.idx")):
+        path.unlink()
+        write(path, bytes(2 * FAN_OUT))
+    store.put(store.whole)
+    yield store.row("a multi-pack-index of packs whose indexes are zeros", is_asked=False)
+    yield store.row("the same with few open files", "prlimit", "--nofile=64", is_asked=False)
+    found, errors, status = ran(program, *located, cwd=store.path)
+    yield "locate in the same", None if (status, found) == (2, "") and errors.count(", skipped") == 4 else f"{status}, {found!r}, {errors!r}"
+
+
 def asked_again(program, room, kind):
     """Requests to a packtool that is kept running, as a multi-pack-index comes, changes and goes, and git packs the store again."""
     for at, words in enumerate([("find", "--one"), ("abbreviate",)]):
@@ -219,4 +237,25 @@ def asked_again(program, room, kind):
             yield f"{title}: one of packs that are gone", ask(child, store.given, wanted)
 
 
-GROUPS = [damaged_bytes, cut_off, other_forms, other_packs, asked_again]
+def while_packs_move(program, room, kind):
+    """Requests to a packtool that is kept running, while git makes packs, writes a multi-pack-index of them, packs them into one by it, and
+    removes those that it does not need any more."""
+    store = Store(program, room / kind, kind)
+    wanted = store.wanted[1][0].encode()
+
+    def move():
+        for start in range(MOVES):
+            pack_objects(store.path, store.ids[start::TWICE], store.path / "objects" / "pack" / "pack")
+            for words in ("write",), ("repack", "--batch-size=0"), ("expire",):
+                git(store.path, "multi-pack-index", *words)
+
+    with talk(program, store.path, "find", "--one") as child, ThreadPoolExecutor(1) as pool:
+        moving, asked, wrong = pool.submit(move), 0, None
+        while not moving.done() and not wrong:
+            wrong = ask(child, store.given, wanted)
+            asked += len(store.lines)
+        moving.result()
+    yield f"find of {asked} lines while packs move, {MOVES} times", wrong or (None if store.place.exists() else "git wrote none")
+
+
+GROUPS = [damaged_bytes, cut_off, other_forms, other_packs, read_instead, asked_again, while_packs_move]

@@ -12,10 +12,11 @@ use Rattle.object_store.proofs.Whole.{abbreviation_among, read_had, read_has}
 use Rattle.object_store.specs.Stores.{AreIdsRead, IsAbbreviationIn, StoreView}
 use Rattle.repositories.specs.Answers.{Answers}
 use Rattle.directory_store.specs.Loose.{bytes_asked}
-use Rattle.directory_store.specs.Opened.{AreObjects, HasAll, HaveCounts, IsObject}
+use Rattle.directory_store.specs.Opened.{AreObjects, AreRight, HasAll, IsObject}
 use Rattle.directory_store.specs.Stores.{IsListedBy}
 use Rattle.directory_store.specs.declared.loose.LooseIds.{LooseIds}
 use Rattle.directory_store.specs.declared.loose.LooseIds.TheVariants as loose_ids
+use Rattle.directory_store.specs.declared.multi.Purpose.{Purpose}
 use Rattle.directory_store.proofs.Wholes.{contained, found_members}
 
 in_range : (n byte : ℕ) → byte < n → Contains (range_with_len 0 n) byte
@@ -61,8 +62,8 @@ module _ (at : Answers) (which : LooseIds) (kind : Kind) (directories : List (Li
     ],
   )
 
-module _ (at : Answers) (which : LooseIds) (directories objects : List (List ℕ)) (view : StoreView) (has : HasAll at which directories view)
-    (counted : HaveCounts at view.kind directories) (are : AreObjects at view.kind loose_ids.All directories objects) where
+module _ (at : Answers) (purpose : Purpose) (which : LooseIds) (directories objects : List (List ℕ)) (view : StoreView) (has : HasAll at purpose which directories view)
+    (right : AreRight at purpose view.kind directories) (are : AreObjects at view.kind loose_ids.All directories objects) where
   -- what is found in the store are these objects that begin with the digits
   pub found_of_all : (prefix : List ℕ) (read found : List (List ℕ)) → IsListedBy which (first_byte_of prefix) → 2 ≤ length prefix → AreIdsRead view (first_byte_of prefix) read
       → IsIndexOf view.kind (matches prefix read) found → found ≡ matches prefix objects
@@ -70,7 +71,7 @@ module _ (at : Answers) (which : LooseIds) (directories objects : List (List ℕ
       let p : List ℕ → Bool = λ id. starts_with nat_eq id prefix in
       let first = first_byte_of prefix in
       let low = ids_read.small in
-      let members = found_members at which directories view prefix read found has counted long ids_read index in
+      let members = found_members at purpose which directories view prefix read found has right long ids_read index in
       part_is view.kind p objects objects found (record { index = are.index; members = λ digits. (λ is. is, λ is. is) })
       (record {
         index = index.index;
@@ -92,12 +93,12 @@ module _ (at : Answers) (which : LooseIds) (directories objects : List (List ℕ
   abbreviation_of_all read least id name listed ids_read two is =
       let first = first_byte_of id in
       let low = ids_read.small in
-      let known = has.are_known counted in
+      let known = has.are_known right in
       abbreviation_among first read objects
       (λ digits there.
-      contained objects digits (∥∥₁_map ((has.members counted digits).0 (read_had view first read known ids_read digits there))
+      contained objects digits (∥∥₁_map ((has.members right digits).0 (read_had view first read known ids_read digits there))
       (λ one. (are.members digits).1 (among_all at which view.kind directories first low listed digits one))))
       (λ digits same there.
-      read_has view first read known ids_read digits same ((has.members counted digits).1
+      read_has view first read known ids_read digits same ((has.members right digits).1
       ∣ all_asked at which view.kind directories first low listed digits same ((are.members digits).0 there) ∣₁))
       least id name two refl is

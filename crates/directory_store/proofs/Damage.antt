@@ -44,7 +44,7 @@ module _ (at : Answers) (kind : Kind) (path bytes : List ℕ) (read : at.bytes p
   damaged can_fail (WrongCount byte) why of = absurd why
   damaged can_fail (NoOffset object) why of = absurd why
 
-answered : (answer : Result (List ℕ) ErrorKind) → IsOk answer → (bytes : List ℕ) × (answer ≡ Ok bytes)
+pub answered : (answer : Result (List ℕ) ErrorKind) → IsOk answer → (bytes : List ℕ) × (answer ≡ Ok bytes)
 answered (Ok bytes) is = (bytes, refl)
 answered (Err kind) is = absurd (false≢true is)
 

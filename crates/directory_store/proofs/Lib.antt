@@ -1,4 +1,5 @@
 mod Clones
+mod Covers
 mod FileNames
 mod IndexLists
 mod Damage

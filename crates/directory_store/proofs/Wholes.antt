@@ -14,11 +14,12 @@ use Rattle.repositories.specs.Answers.{Answers, IfKnown}
 use Rattle.repositories.specs.Walks.{with_alternates}
 use Rattle.repositories.specs.declared.finding.ObjectDirectory.{ObjectDirectory}
 use Rattle.directory_store.specs.Loose.{HasLoose, bytes_asked}
-use Rattle.directory_store.specs.Opened.{HaveCounts, AreLooseOf, AreOpened, HasAll, HasAllOf, IsObject, place_of}
+use Rattle.directory_store.specs.Opened.{AreLooseOf, AreOpened, AreRight, HasAll, HasAllOf, IsObject, place_of}
 use Rattle.directory_store.specs.Stores.{only_of}
 use Rattle.directory_store.specs.declared.error.Error.{Error}
 use Rattle.directory_store.specs.declared.loose.LooseIds.{LooseIds}
 use Rattle.directory_store.specs.declared.loose.LooseObjects.{LooseObjects}
+use Rattle.directory_store.specs.declared.multi.Purpose.{Purpose}
 use Rattle.directory_store.proofs.Held.{are_known, ids_are}
 use Rattle.directory_store.proofs.LooseMembers.{loose_members}
 
@@ -62,30 +63,30 @@ module _ (view : StoreView) (is : ∥ AreKnown view ∥₁) where
   ids_again k = ap (λ (all : List Tables). flat_map (λ (one : Tables). one.ids) all ++ view.loose) (are_tables k)
 
 -- what is found in a store that has all objects of object directories are those that begin with the digits
-pub found_members : (at : Answers) (which : LooseIds) (directories : List (List ℕ)) (view : StoreView) (prefix : List ℕ) (read found : List (List ℕ)) → HasAll at which directories view
-    → (counted : HaveCounts at view.kind directories) → 2 ≤ length prefix → AreIdsRead view (first_byte_of prefix) read → IsIndexOf view.kind (matches prefix read) found
+pub found_members : (at : Answers) (purpose : Purpose) (which : LooseIds) (directories : List (List ℕ)) (view : StoreView) (prefix : List ℕ) (read found : List (List ℕ))
+    → HasAll at purpose which directories view → (right : AreRight at purpose view.kind directories) → 2 ≤ length prefix → AreIdsRead view (first_byte_of prefix) read → IsIndexOf view.kind (matches prefix read) found
     → (digits : List ℕ) → Contains found digits ↔ (IsTrue (starts_with nat_eq digits prefix) × ∥ IsObject at view.kind which directories digits ∥₁)
-found_members at which directories view prefix read found has counted long ids_read index digits =
+found_members at purpose which directories view prefix read found has right long ids_read index digits =
     let p : List ℕ → Bool = λ id. starts_with nat_eq id prefix in
-    let all = ids_held view (has.are_known counted) in
-    let same : matches prefix read ≡ matches prefix all = read_matches view (first_byte_of prefix) read (has.are_known counted) ids_read prefix long refl in (
+    let all = ids_held view (has.are_known right) in
+    let same : matches prefix read ≡ matches prefix all = read_matches view (first_byte_of prefix) read (has.are_known right) ids_read prefix long refl in (
       λ is.
           let there : Contains (matches prefix all) digits = subst (λ (l : List (List ℕ)). Contains l digits) same ((index.members digits).0 is) in
-          (kept_passes p all digits there, (has.members counted digits).0 (contains_had p all digits there)),
+          (kept_passes p all digits there, (has.members right digits).0 (contains_had p all digits there)),
       λ (begins, is).
-          let there : Contains (matches prefix all) digits = contains_kept p all digits ((has.members counted digits).1 is) begins in
+          let there : Contains (matches prefix all) digits = contains_kept p all digits ((has.members right digits).1 is) begins in
           (index.members digits).1 (subst (λ (l : List (List ℕ)). Contains l digits) (sym same) there),
     )
 
 -- what is known of a store
-module _ (answers : Option Answers) (objects : ObjectDirectory) (directories : List (List ℕ)) (skipped : List Error) (paths : List (List ℕ)) (indexes : List LazyIndex)
+module _ (answers : Option Answers) (purpose : Purpose) (objects : ObjectDirectory) (directories : List (List ℕ)) (skipped : List Error) (paths : List (List ℕ)) (indexes : List LazyIndex)
     (loose : LooseObjects) (before : List LooseObjects)
-    (opened : ∥ (skipped ≡ [] → IfKnown (λ at. AreOpened at objects directories paths indexes) answers) ∥₁)
+    (opened : ∥ (skipped ≡ [] → IfKnown (λ at. AreOpened at purpose objects directories paths indexes) answers) ∥₁)
     (listed : ∥ IfKnown (λ at. All (AreLooseOf at objects.kind directories) (loose ∷ before)) answers ∥₁) where
   abbrev view_of : StoreView
   view_of = record { kind = objects.kind; packs = map seen indexes; paths = paths; loose = loose.table.ids; listed = only_of loose.which }
 
-  module _ (at : Answers) (known : answers ≡ Some at) (counted : HaveCounts at objects.kind directories) (found : AreOpened at objects directories paths indexes)
+  module _ (at : Answers) (known : answers ≡ Some at) (right : AreRight at purpose objects.kind directories) (found : AreOpened at purpose objects directories paths indexes)
       (are : All (AreLooseOf at objects.kind directories) (loose ∷ before)) where
     abbrev members_of : (digits : List ℕ) → Contains loose.table.ids digits
         ↔ ((directory : List ℕ) × Contains directories directory × Contains (bytes_asked loose.which) (first_byte_of digits) × HasLoose at objects.kind directory digits)
@@ -93,35 +94,35 @@ module _ (answers : Option Answers) (objects : ObjectDirectory) (directories : L
         (All-head (AreLooseOf at objects.kind directories) loose before are) loose.all
 
     abbrev known_of : AreKnown view_of
-    known_of = are_known at loose.which view_of directories found.packs found.listed found.all indexes refl found.tables members_of counted
+    known_of = are_known at purpose loose.which view_of directories found.packs found.listed indexes refl found.read members_of right
 
     abbrev ids_of : (id : List ℕ) → Contains (ids_held view_of known_of) id ↔ IsObject at objects.kind loose.which directories id
-    ids_of = ids_are at loose.which view_of directories found.packs found.listed found.all indexes refl found.tables members_of counted
+    ids_of = ids_are at purpose loose.which view_of directories found.packs found.listed indexes refl found.read members_of right
 
-  pub has_all : skipped ≡ [] → IfKnown (λ at. HasAllOf at loose.which objects view_of) answers
+  pub has_all : skipped ≡ [] → IfKnown (λ at. HasAllOf at purpose loose.which objects view_of) answers
   has_all none at known = (
     directories,
     ∥∥₁_elim opened (hlevel props) (λ found. (found none at known).alternates),
     record {
-      are_known = λ counted. known_again view_of (∥∥₁_elim opened ∥∥₁_prop (λ found. ∥∥₁_map listed (λ are. known_of at known counted (found none at known) (are at known))));
-      members = λ counted id. (
+      are_known = λ right. known_again view_of (∥∥₁_elim opened ∥∥₁_prop (λ found. ∥∥₁_map listed (λ are. known_of at known right (found none at known) (are at known))));
+      members = λ right id. (
         λ is. ∥∥₁_elim opened ∥∥₁_prop (λ found. ∥∥₁_map listed (λ are.
             let of = found none at known in
-            (ids_of at known counted of (are at known) id).0 (subst (λ (l : List (List ℕ)). Contains l id) (ids_again view_of _ (known_of at known counted of (are at known))) is))),
+            (ids_of at known right of (are at known) id).0 (subst (λ (l : List (List ℕ)). Contains l id) (ids_again view_of _ (known_of at known right of (are at known))) is))),
         λ is. contained _ id (∥∥₁_elim is ∥∥₁_prop (λ object. ∥∥₁_elim opened ∥∥₁_prop (λ found. ∥∥₁_map listed (λ are.
             let of = found none at known in
-            subst (λ (l : List (List ℕ)). Contains l id) (sym (ids_again view_of _ (known_of at known counted of (are at known)))) ((ids_of at known counted of (are at known) id).1 object))))),
+            subst (λ (l : List (List ℕ)). Contains l id) (sym (ids_again view_of _ (known_of at known right of (are at known)))) ((ids_of at known right of (are at known) id).1 object))))),
       );
     },
   )
 
 -- it is the same of another place that is the same
-pub moved : (at : Answers) (which other : LooseIds) (objects others : ObjectDirectory) (view : StoreView) → which ≡ other → place_of objects ≡ place_of others
-    → HasAllOf at which objects view → HasAllOf at other others view
-moved at which other objects others view same place has = (
+pub moved : (at : Answers) (purpose others_purpose : Purpose) (which other : LooseIds) (objects others : ObjectDirectory) (view : StoreView) → purpose ≡ others_purpose → which ≡ other
+    → place_of objects ≡ place_of others → HasAllOf at purpose which objects view → HasAllOf at others_purpose other others view
+moved at purpose others_purpose which other objects others view asked same place has = (
   has.0,
   subst (λ (p : List ℕ × List (List ℕ)). with_alternates p.0 p.1 at ≡ Some (has.0, 0)) place has.1,
-  subst (λ w. HasAll at w has.0 view) same has.2,
+  subst (λ p. HasAll at p other has.0 view) asked (subst (λ w. HasAll at purpose w has.0 view) same has.2),
 )
 
 -- the parts of lists that are empty together

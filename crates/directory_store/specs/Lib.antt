@@ -1,5 +1,6 @@
 -- Object stores in directories.
 pub mod Loose
+pub mod Multi
 pub mod Opened
 pub mod Packs
 pub mod Paths

@@ -9,15 +9,19 @@ use Rattle.id_lookup.specs.Words.{IsIndex}
 use Rattle.object_store.specs.Stores.{AreKnown, StoreView, ids_held}
 use Rattle.pack_index.specs.Format.{HasCounts, ids_in}
 use Rattle.pack_index.specs.Lazy.{LazyIndex}
+use Rattle.pack_index.specs.Multi.{IsReadAsMulti}
 use Rattle.repositories.specs.Answers.{Answers, IfKnown}
 use Rattle.repositories.specs.Walks.{with_alternates}
 use Rattle.repositories.specs.declared.finding.ObjectDirectory.{ObjectDirectory}
 use Rattle.directory_store.specs.Loose.{AreLoose, HasLoose, bytes_asked, listed_in}
-use Rattle.directory_store.specs.Packs.{AreOpenOrDamaged, ArePacks, is_found_file, packs_of, split_names, tables_at, tables_seen, unnamed_in}
+use Rattle.directory_store.specs.Multi.{AreCoveredOrDamaged, AreRead, HasIdsOf, IsNamed, Multi, multi_path}
+use Rattle.directory_store.specs.Packs.{ArePacks, is_found_file, packs_of, split_names, tables_seen, unnamed_in}
 use Rattle.directory_store.specs.Stores.{IsChanged, IsUnread, index_path}
 use Rattle.directory_store.specs.declared.error.Error.{Error}
 use Rattle.directory_store.specs.declared.loose.LooseIds.{LooseIds}
 use Rattle.directory_store.specs.declared.loose.LooseObjects.{LooseObjects}
+use Rattle.directory_store.specs.declared.multi.Purpose.{Purpose}
+use Rattle.directory_store.specs.declared.multi.Purpose.TheVariants.{Ids}
 use Rattle.directory_store.specs.declared.pack_paths.PackPaths.{PackPaths}
 
 -- an object directory has a pack index at this path, whose pack is there
@@ -31,6 +35,17 @@ pub record HasIndex (at : Answers) (directory path : List ℕ) : Type 0 where
 -- the fan-out table of each pack index of these object directories is right
 abbrev pub HaveCounts : Answers → Kind → List (List ℕ) → Type 0
 HaveCounts at kind directories = (directory path : List ℕ) → Contains directories directory → HasIndex at directory path → (bytes : List ℕ) × (at.bytes path ≡ Ok bytes) × HasCounts kind bytes
+
+-- the ids of each multi-pack-index of these object directories are those of the packs that it names, if all of these packs are there
+abbrev pub HaveIdsOfPacks : Answers → Kind → List (List ℕ) → Type 0
+HaveIdsOfPacks at kind directories = (multi : Multi) → Contains (map packs_of directories) multi.packs → at.bytes (multi_path multi) ≡ Ok multi.bytes
+    → IsReadAsMulti kind multi.bytes multi.layout multi.names → ((path : List ℕ) → IsNamed multi path → (directory : List ℕ) × Contains directories directory × HasIndex at directory path)
+    → HasIdsOf at kind multi
+
+-- what is read of these object directories for a purpose is right: the fan-out tables of pack indexes, and the ids of multi-pack-indexes
+pub record AreRight (at : Answers) (purpose : Purpose) (kind : Kind) (directories : List (List ℕ)) : Type 0 where
+  pub counts : HaveCounts at kind directories
+  pub ids : purpose ≡ Ids → HaveIdsOfPacks at kind directories
 
 -- an object directory has an object: the file of one of its pack indexes has the id, or it is loose, and asked for
 abbrev pub HasObject : Answers → Kind → LooseIds → List ℕ → List ℕ → Type 0
@@ -47,10 +62,10 @@ pub record AreObjects (at : Answers) (kind : Kind) (which : LooseIds) (directori
   pub index : IsIndex kind ids
   pub members : (digits : List ℕ) → Contains ids digits ↔ IsObject at kind which directories digits
 
--- a store has exactly the objects that some object directories have, if the fan-out table of each of their pack indexes is right
-pub record HasAll (at : Answers) (which : LooseIds) (directories : List (List ℕ)) (view : StoreView) : Type 0 where
-  pub are_known : HaveCounts at view.kind directories → AreKnown view
-  pub members : (counted : HaveCounts at view.kind directories) (digits : List ℕ) → Contains (ids_held view (are_known counted)) digits ↔ ∥ IsObject at view.kind which directories digits ∥₁
+-- a store that was opened for a purpose has exactly the objects that some object directories have, if what is read of them is right
+pub record HasAll (at : Answers) (purpose : Purpose) (which : LooseIds) (directories : List (List ℕ)) (view : StoreView) : Type 0 where
+  pub are_known : AreRight at purpose view.kind directories → AreKnown view
+  pub members : (right : AreRight at purpose view.kind directories) (digits : List ℕ) → Contains (ids_held view (are_known right)) digits ↔ ∥ IsObject at view.kind which directories digits ∥₁
 
 -- where an object directory is: its path, and those of the alternates that the environment adds
 abbrev pub place_of : ObjectDirectory → List ℕ × List (List ℕ)
@@ -61,18 +76,17 @@ abbrev pub AreWithAlternates : Answers → ObjectDirectory → List (List ℕ) �
 AreWithAlternates at objects directories = let place = place_of objects in with_alternates place.0 place.1 at ≡ Some (directories, 0)
 
 -- a store has exactly the objects of an object directory and its alternates
-abbrev pub HasAllOf : Answers → LooseIds → ObjectDirectory → StoreView → Type 0
-HasAllOf at which objects view = (directories : List (List ℕ)) × AreWithAlternates at objects directories × HasAll at which directories view
+abbrev pub HasAllOf : Answers → Purpose → LooseIds → ObjectDirectory → StoreView → Type 0
+HasAllOf at purpose which objects view = (directories : List (List ℕ)) × AreWithAlternates at objects directories × HasAll at purpose which directories view
 
 -- How a store has them.
 
--- of an object directory and its alternates these are the paths of all pack indexes with packs, and these the pack indexes
-pub record AreOpened (at : Answers) (objects : ObjectDirectory) (directories paths : List (List ℕ)) (indexes : List LazyIndex) : Type 0 where
+-- these are the directories of an object directory and its alternates, and of all pack indexes with packs there these are read for a purpose, from these paths
+pub record AreOpened (at : Answers) (purpose : Purpose) (objects : ObjectDirectory) (directories paths : List (List ℕ)) (indexes : List LazyIndex) : Type 0 where
   pub alternates : AreWithAlternates at objects directories
   pub packs : List PackPaths
   pub listed : ArePacks at (map packs_of directories) packs
-  pub all : paths ≡ map index_path packs
-  pub tables : tables_seen indexes ≡ map (tables_at at objects.kind) paths
+  pub read : AreRead at purpose objects.kind (map packs_of directories) (map index_path packs) paths (tables_seen indexes)
 
 -- these loose objects were listed in object directories
 abbrev pub AreLooseOf : Answers → Kind → List (List ℕ) → LooseObjects → Type 0
@@ -81,8 +95,8 @@ AreLooseOf at kind directories loose = AreLoose at kind loose.which directories 
 -- Why something is skipped.
 
 -- what is skipped of an object directory and its alternates: as many alternates as cannot be used, as many pack indexes as have names that are not UTF-8, and
--- all pack indexes with packs that are not opened, which are damaged
-pub record AreSkipped (at : Answers) (objects : ObjectDirectory) (opened : List (List ℕ)) (skipped : List Error) : Type 0 where
+-- all pack indexes with packs that are neither opened nor covered, which are damaged
+pub record AreSkipped (at : Answers) (purpose : Purpose) (objects : ObjectDirectory) (opened : List (List ℕ)) (skipped : List Error) : Type 0 where
   pub directories : List (List ℕ)
   pub alternates : List Error
   pub unnamed : List Error
@@ -93,8 +107,8 @@ pub record AreSkipped (at : Answers) (objects : ObjectDirectory) (opened : List 
   pub are_unnamed : length unnamed ≡ sum_by (unnamed_in at) (map packs_of directories)
   pub are_unread : All IsUnread (alternates ++ unnamed)
   pub listed : ArePacks at (map packs_of directories) packs
-  pub are_damaged : AreOpenOrDamaged at objects.kind (map index_path packs) opened damaged
+  pub are_damaged : AreCoveredOrDamaged at purpose objects.kind (map packs_of directories) (map index_path packs) opened damaged
 
 -- why something of a store is skipped: it was so as the store was opened, by what directories and files answer, if that is known, or the store has changed since
-abbrev pub HaveReasons : Option Answers → ObjectDirectory → List (List ℕ) → List Error → Type 0
-HaveReasons known objects opened skipped = ∥ All (IsChanged (string_bytes objects.path)) skipped ⊎ IfKnown (λ at. AreSkipped at objects opened skipped) known ∥₁
+abbrev pub HaveReasons : Option Answers → Purpose → ObjectDirectory → List (List ℕ) → List Error → Type 0
+HaveReasons known purpose objects opened skipped = ∥ All (IsChanged (string_bytes objects.path)) skipped ⊎ IfKnown (λ at. AreSkipped at purpose objects opened skipped) known ∥₁

@@ -10,6 +10,7 @@ mod error;
 pub mod laws;
 mod listing;
 mod loose;
+mod multi;
 mod pack_paths;
 mod packs;
 /// Paths of loose objects.
@@ -19,5 +20,6 @@ mod store;
 
 pub use error::Error;
 pub use loose::LooseIds;
+pub use multi::Purpose;
 pub use source::{StoreFile, StoreFiles};
 pub use store::DirectoryStore;

@@ -9,11 +9,14 @@ ghost use Rattle.pack_index.specs.declared.lazy_error.LazyError.{LazyError};
 ghost use Rattle.pack_index.specs.declared.lazy_error.LazyError.TheVariants as errors;
 ghost use Rattle.repositories.specs.Answers.{IfKnown};
 ghost use Rattle.repositories.specs.States.{IsSettled};
+ghost use Rattle.directory_store.specs.Multi.{AreCoveredOrDamaged, AreRead};
 ghost use Rattle.directory_store.specs.Packs.{AreIndexNames, AreIndexes, AreIndexesIn, AreOpenOrDamaged, ArePacks, IsDamagedAt, has_pack, index_in, packs_of, split_names, tables_at, tables_seen, unnamed_in};
+ghost use Rattle.directory_store.specs.declared.multi.Purpose.TheVariants.{Ids};
 ghost use Rattle.directory_store.specs.Stores.{AreStatesOf, IsListedPack, IsIndexError, IsUnread, index_path, is_damage};
 
 use crate::error::Error;
 use crate::listing::{are_settled, expect_states, list_names, states_of};
+use crate::multi::{Covering, Purpose, cover, has_multi};
 use crate::pack_paths::PackPaths;
 use crate::source::{StoreFiles, most_kept_of};
 use gix_hash::Kind;
@@ -36,13 +39,13 @@ const FEW_OPEN: usize = 64;
 const MAX_KEPT: u64 = 1 << 26;
 
 // The largest share. A longer index gains little, since a look-up reads some 4096 bytes of it.
-const MAX_KEPT_OF_ONE: u64 = 1 << 22;
+pub(crate) const MAX_KEPT_OF_ONE: u64 = 1 << 22;
 
 // The directories of packs in object directories, in order, each with its state before it was
 // listed.
 #[derive(Drop)]
 pub(crate) struct PackDirectories {
-    paths: Vec<String>,
+    pub(crate) paths: Vec<String>,
     states: Vec<FileState>,
     ghost as_many: { vec_len states ≡ vec_len paths },
 }
@@ -295,7 +298,11 @@ fn push_index(
 }
 
 // The paths of the pack index of this name in a directory, and of its pack.
-fn paths_of(rt: &impl AllocGlobal, directory: &str, name: &str) -> Result<PackPaths, AllocError>
+pub(crate) fn paths_of(
+    rt: &impl AllocGlobal,
+    directory: &str,
+    name: &str,
+) -> Result<PackPaths, AllocError>
     ensures { IfOk result (λ paths. index_path paths ≡ path_join directory.now name.now) }
 {
     let index = join(rt, directory, name)?;
@@ -320,7 +327,7 @@ fn has_pack<R: Directories>(rt: &R, paths: &PackPaths) -> Result<bool, Error>
     }
 }
 
-// The pack indexes that were opened.
+// The pack indexes that were opened, and the multi-pack-indexes that are read in place of others.
 #[derive(Drop)]
 pub(crate) struct OpenIndexes<R: StoreFiles> {
     // Their paths, in order.
@@ -332,39 +339,91 @@ pub(crate) struct OpenIndexes<R: StoreFiles> {
     ghost of_paths: { map index_path paths.items ≡ map (λ index. index.path) indexes.items },
 }
 
-// Opens pack indexes whose names are of a kind. If too many files are open, none stays open.
+// Opens what is read for a purpose of the pack indexes that are listed in directories of packs, and
+// whose names are of a kind. If too many files are open, none stays open.
 pub(crate) fn open_indexes<R: StoreFiles>(
     rt: &R,
-    paths: &[PackPaths],
+    purpose: Purpose,
+    directories: &[String],
+    listed: &[PackPaths],
     kind: Kind,
 ) -> Result<OpenIndexes<R>, Error>
     ensures kinds { IfOk result (λ opened. All (λ index. index.kind ≡ kind)
         opened.indexes.items) }
-    ensures tables { IfOk result (λ opened. IfKnown (λ at. tables_seen opened.indexes.items
-        ≡ map (tables_at at kind) (map index_path opened.paths.items)) (R.answers rt.now)) }
-    ensures all { IfOk result (λ opened. vec_len opened.indexes + vec_len opened.skipped
-        ≡ length paths.now) }
-    ensures paths { IfOk result (λ opened. opened.skipped.items ≡ []
-        → map index_path opened.paths.items ≡ map index_path paths.now) }
-    ensures skipped { IfOk result (λ opened. IfKnown (λ at. AreOpenOrDamaged at kind
-        (map index_path paths.now) (map index_path opened.paths.items) opened.skipped.items)
+    ensures read { IfOk result (λ opened. opened.skipped.items ≡ [] → IfKnown (λ at. AreRead at
+        purpose kind (map string_bytes directories.now) (map index_path listed.now)
+        (map index_path opened.paths.items) (tables_seen opened.indexes.items))
         (R.answers rt.now)) }
+    ensures skipped { IfOk result (λ opened. IfKnown (λ at. AreCoveredOrDamaged at purpose kind
+        (map string_bytes directories.now) (map index_path listed.now)
+        (map index_path opened.paths.items) opened.skipped.items) (R.answers rt.now)) }
 {
+    let is_covered = match purpose {
+        Purpose::Ids => has_multi(rt, directories, listed)?,
+        Purpose::Locations => false,
+    };
     for most_open in [MAX_OPEN, FEW_OPEN] {
-        let opened = open_all(rt, paths, most_open, kind);
+        let opened = if is_covered {
+            open_covered(rt, directories, listed, most_open, kind)
+        } else {
+            open_all(rt, listed, most_open, MAX_KEPT, kind)
+        };
         if !matches!(&opened, Err(error) if error.is_too_many_open()) {
             return opened;
         }
     }
-    open_all(rt, paths, 0, kind)
+    open_all(rt, listed, 0, MAX_KEPT, kind)
 }
 
-// Opens pack indexes, of which the first ones stay open. One is skipped if it is none of version 2
-// and of the kind, or its fan-out entries fall.
+// Opens multi-pack-indexes in directories of packs, and the pack indexes that are listed there and
+// that none of these names. The first ones stay open.
+fn open_covered<R: StoreFiles>(
+    rt: &R,
+    directories: &[String],
+    listed: &[PackPaths],
+    most_open: usize,
+    kind: Kind,
+) -> Result<OpenIndexes<R>, Error>
+    ensures kinds { IfOk result (λ opened. All (λ index. index.kind ≡ kind)
+        opened.indexes.items) }
+    ensures read { IfOk result (λ opened. opened.skipped.items ≡ [] → IfKnown (λ at. AreRead at
+        Ids kind (map string_bytes directories.now) (map index_path listed.now)
+        (map index_path opened.paths.items) (tables_seen opened.indexes.items))
+        (R.answers rt.now)) }
+    ensures skipped { IfOk result (λ opened. IfKnown (λ at. AreCoveredOrDamaged at Ids kind
+        (map string_bytes directories.now) (map index_path listed.now)
+        (map index_path opened.paths.items) opened.skipped.items) (R.answers rt.now)) }
+{
+    let mut kept = MAX_KEPT;
+    let covering = cover(rt, directories, listed, most_open, &mut kept, kind)?;
+    let Covering {
+        mut paths,
+        multis: mut indexes,
+        left,
+    } = covering;
+    let few_open = most_open.saturating_sub(indexes.len());
+    let others = open_all(rt, &left, few_open, kept, kind)?;
+    let OpenIndexes {
+        paths: mut other_paths,
+        indexes: mut other_indexes,
+        skipped,
+    } = others;
+    paths.append(&mut other_paths)?;
+    indexes.append(&mut other_indexes)?;
+    Ok(OpenIndexes {
+        paths,
+        indexes,
+        skipped,
+    })
+}
+
+// Opens pack indexes, of which the first ones stay open, and of which so many bytes may be kept.
+// One is skipped if it is none of version 2 and of the kind, or its fan-out entries fall.
 fn open_all<R: StoreFiles>(
     rt: &R,
     listed: &[PackPaths],
     most_open: usize,
+    mut left: u64,
     kind: Kind,
 ) -> Result<OpenIndexes<R>, Error>
     ensures kinds { IfOk result (λ opened. All (λ index. index.kind ≡ kind)
@@ -382,7 +441,6 @@ fn open_all<R: StoreFiles>(
     let mut paths = Vec::with_capacity(rt.alloc(), listed.len())?;
     let mut indexes = Vec::with_capacity(rt.alloc(), listed.len())?;
     let mut skipped = Vec::new(rt.alloc());
-    let mut left = MAX_KEPT;
     for (at, one) in listed.iter().enumerate() {
         let share = (left / (listed.len() - at) as u64).min(MAX_KEPT_OF_ONE);
         match open_pack_index(rt, &one.index, at < most_open, share, &mut left, kind) {

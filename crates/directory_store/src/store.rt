@@ -7,10 +7,12 @@ ghost use Rattle.repositories.specs.Answers.{IfKnown};
 ghost use Rattle.directory_store.specs.Loose.{AreLoose};
 ghost use Rattle.directory_store.specs.Opened.{AreLooseOf, AreOpened, AreSkipped, HasAllOf, HaveReasons, place_of};
 ghost use Rattle.directory_store.specs.Packs.{ArePacks, unnamed_in};
+ghost use Rattle.directory_store.specs.declared.multi.Purpose.TheVariants.{Locations};
 ghost use Rattle.directory_store.specs.Stores.{AreSettled, IsChanged, index_path, of_repository, pack_path_of};
 
 use crate::error::Error;
 use crate::loose::{LooseIds, LooseObjects, check_loose_file, list_loose, push_path, take_loose};
+use crate::multi::Purpose;
 use crate::pack_paths::PackPaths;
 use crate::packs::{PackDirectories, PackIndexes, open_indexes};
 use crate::source::StoreFiles;
@@ -37,6 +39,7 @@ pub struct DirectoryStore<R: StoreFiles> {
     rt: R,
     // From what it was opened, and what was found then.
     directory: ObjectDirectory,
+    purpose: Purpose,
     directories: ObjectDirectories,
     pack_directories: PackDirectories,
     // Whether the packs are those that are there as long as the directories are unchanged.
@@ -46,7 +49,8 @@ pub struct DirectoryStore<R: StoreFiles> {
     skipped_before: Vec<Error>,
     // Why it could not be opened again.
     failed: Option<Error>,
-    // The paths of each pack, and its pack index.
+    // The paths of each pack, and its pack index; before them, if no locations are asked for, those
+    // of multi-pack-indexes.
     packs: Vec<PackPaths>,
     indexes: Vec<LazyFile<R::Source>>,
     loose: LooseObjects,
@@ -56,13 +60,13 @@ pub struct DirectoryStore<R: StoreFiles> {
     ghost of_kind: { All (λ index. index.kind ≡ directory.kind) indexes.items },
     ghost loose_of_kind: { loose.kind ≡ directory.kind },
     ghost before_of_kind: { All (λ loose. loose.kind ≡ directory.kind) loose_before.items },
-    ghost are_opened: { ∥ (skipped.items ≡ [] → IfKnown (λ at. AreOpened at directory
+    ghost are_opened: { ∥ (skipped.items ≡ [] → IfKnown (λ at. AreOpened at purpose directory
         (map string_bytes directories.paths.items) (map index_path packs.items) indexes.items)
         (R.answers rt)) ∥₁ },
     ghost are_loose: { ∥ IfKnown (λ at. All (AreLooseOf at directory.kind
         (map string_bytes directories.paths.items)) (loose ∷ loose_before.items))
         (R.answers rt) ∥₁ },
-    ghost have_reasons: { HaveReasons (R.answers rt) directory (map index_path packs.items)
+    ghost have_reasons: { HaveReasons (R.answers rt) purpose directory (map index_path packs.items)
         skipped.items },
 }
 
@@ -89,47 +93,58 @@ impl<R: StoreFiles> DirectoryStore<R> {
         loose: LooseIds,
     ) -> Result<DirectoryStore<R>, Error>
         ensures kind { IfOk result (λ store. store.directory.kind ≡ directory.now.kind) }
+        ensures purpose { IfOk result (λ store. store.purpose ≡ Locations) }
         ensures listed { IfOk result (λ store. store.loose.which ≡ loose) }
         ensures place { IfOk result (λ store. place_of store.directory ≡ place_of directory.now) }
         ensures answers { IfOk result (λ store. R.answers store.rt ≡ R.answers rt.now) }
-        ensures reasons { IfOk result (λ store. ∥ IfKnown (λ at. AreSkipped at store.directory
-            (map index_path store.packs.items) store.skipped.items) (R.answers store.rt) ∥₁) }
+        ensures reasons { IfOk result (λ store. ∥ IfKnown (λ at. AreSkipped at store.purpose
+            store.directory (map index_path store.packs.items) store.skipped.items)
+            (R.answers store.rt) ∥₁) }
         ensures objects { IfOk result (λ store. store.skipped.items ≡ [] → IfKnown (λ at.
-            HasAllOf at store.loose.which store.directory
+            HasAllOf at store.purpose store.loose.which store.directory
             (⟦<DirectoryStore<R> as Store>⟧.view store)) (R.answers store.rt)) }
     {
-        DirectoryStore::open_at(rt, directory, loose, None, None)
+        DirectoryStore::open_at(rt, directory, Purpose::Locations, loose, None, None)
     }
 
-    /// Opens the store as [`DirectoryStore::open`] does, to be refreshed later. `now` is the time
-    /// before the call, by the clock of the file system. If no directory of packs was changed in
-    /// the 20 ms before it (2 s where times are whole seconds), nothing is skipped, each pack index
-    /// has its pack, and neither packs nor alternates change later, [`DirectoryStore::refresh`]
-    /// reads only fan-out directories.
+    /// Opens the store as [`DirectoryStore::open`] does, for a purpose, and to be refreshed later.
+    /// `now` is the time before the call, by the clock of the file system. If no directory of packs
+    /// was changed in the 20 ms before it (2 s where times are whole seconds), nothing is skipped,
+    /// each pack index has its pack, and neither packs nor alternates change later,
+    /// [`DirectoryStore::refresh`] reads only fan-out directories.
+    ///
+    /// For [`Purpose::Ids`] a multi-pack-index is read in place of the pack indexes that it names,
+    /// if all of them are listed with their packs. If it cannot be read as one of version 1 and of
+    /// the kind that builds on no other, or is no regular file, or if too many files are open, each
+    /// pack index is read.
     ///
     /// ```
     /// let directory = find_objects(rt)?;
     /// let now = SystemTime::now(rt)?;
-    /// let mut store = DirectoryStore::open_for_refresh(rt, &directory, LooseIds::All, now)?;
-    /// let is_same = store.refresh(LooseIds::All, SystemTime::now(rt)?)?;
+    /// let all = LooseIds::All;
+    /// let mut store = DirectoryStore::open_for_refresh(rt, &directory, Purpose::Ids, all, now)?;
+    /// let is_same = store.refresh(all, SystemTime::now(rt)?)?;
     /// ```
     pub fn open_for_refresh(
         rt: &R,
         directory: &ObjectDirectory,
+        purpose: Purpose,
         loose: LooseIds,
         now: SystemTime,
     ) -> Result<DirectoryStore<R>, Error>
         ensures kind { IfOk result (λ store. store.directory.kind ≡ directory.now.kind) }
+        ensures purpose { IfOk result (λ store. store.purpose ≡ purpose) }
         ensures listed { IfOk result (λ store. store.loose.which ≡ loose) }
         ensures place { IfOk result (λ store. place_of store.directory ≡ place_of directory.now) }
         ensures answers { IfOk result (λ store. R.answers store.rt ≡ R.answers rt.now) }
-        ensures reasons { IfOk result (λ store. ∥ IfKnown (λ at. AreSkipped at store.directory
-            (map index_path store.packs.items) store.skipped.items) (R.answers store.rt) ∥₁) }
+        ensures reasons { IfOk result (λ store. ∥ IfKnown (λ at. AreSkipped at store.purpose
+            store.directory (map index_path store.packs.items) store.skipped.items)
+            (R.answers store.rt) ∥₁) }
         ensures objects { IfOk result (λ store. store.skipped.items ≡ [] → IfKnown (λ at.
-            HasAllOf at store.loose.which store.directory
+            HasAllOf at store.purpose store.loose.which store.directory
             (⟦<DirectoryStore<R> as Store>⟧.view store)) (R.answers store.rt)) }
     {
-        DirectoryStore::open_at(rt, directory, loose, Some(now), None)
+        DirectoryStore::open_at(rt, directory, purpose, loose, Some(now), None)
     }
 
     // Opens the store. If the time before is given, alternates and packs can be compared later, and
@@ -138,40 +153,46 @@ impl<R: StoreFiles> DirectoryStore<R> {
     fn open_at(
         rt: &R,
         directory: &ObjectDirectory,
+        purpose: Purpose,
         loose: LooseIds,
         now: Option<SystemTime>,
         loose_now: Option<SystemTime>,
     ) -> Result<DirectoryStore<R>, Error>
         ensures kind { IfOk result (λ store. store.directory.kind ≡ directory.now.kind) }
+        ensures purpose { IfOk result (λ store. store.purpose ≡ purpose) }
         ensures listed { IfOk result (λ store. store.loose.which ≡ loose) }
         ensures place { IfOk result (λ store. place_of store.directory ≡ place_of directory.now) }
         ensures answers { IfOk result (λ store. R.answers store.rt ≡ R.answers rt.now) }
-        ensures reasons { IfOk result (λ store. ∥ IfKnown (λ at. AreSkipped at store.directory
-            (map index_path store.packs.items) store.skipped.items) (R.answers store.rt) ∥₁) }
+        ensures reasons { IfOk result (λ store. ∥ IfKnown (λ at. AreSkipped at store.purpose
+            store.directory (map index_path store.packs.items) store.skipped.items)
+            (R.answers store.rt) ∥₁) }
     {
         for _ in 1..MAX_TRIES {
-            let opened = DirectoryStore::read(rt, directory, loose, now, loose_now);
+            let opened = DirectoryStore::read(rt, directory, purpose, loose, now, loose_now);
             if !matches!(&opened, Err(error) if error.is_change()) {
                 return opened;
             }
         }
-        DirectoryStore::read(rt, directory, loose, now, loose_now)
+        DirectoryStore::read(rt, directory, purpose, loose, now, loose_now)
     }
 
     // Reads the store once.
     fn read(
         rt: &R,
         directory: &ObjectDirectory,
+        purpose: Purpose,
         loose: LooseIds,
         now: Option<SystemTime>,
         loose_now: Option<SystemTime>,
     ) -> Result<DirectoryStore<R>, Error>
         ensures kind { IfOk result (λ store. store.directory.kind ≡ directory.now.kind) }
+        ensures purpose { IfOk result (λ store. store.purpose ≡ purpose) }
         ensures listed { IfOk result (λ store. store.loose.which ≡ loose) }
         ensures place { IfOk result (λ store. place_of store.directory ≡ place_of directory.now) }
         ensures answers { IfOk result (λ store. R.answers store.rt ≡ R.answers rt.now) }
-        ensures reasons { IfOk result (λ store. ∥ IfKnown (λ at. AreSkipped at store.directory
-            (map index_path store.packs.items) store.skipped.items) (R.answers store.rt) ∥₁) }
+        ensures reasons { IfOk result (λ store. ∥ IfKnown (λ at. AreSkipped at store.purpose
+            store.directory (map index_path store.packs.items) store.skipped.items)
+            (R.answers store.rt) ∥₁) }
         ensures settled { IfOk result (λ store. store.is_settled ≡ true
             → (store.skipped.items ≡ []) × AreSettled now store.pack_directories.states.items) }
     {
@@ -191,12 +212,14 @@ impl<R: StoreFiles> DirectoryStore<R> {
         if !directories.are_unchanged(rt) {
             return Err(Error::changed(rt.alloc(), &directory.path));
         }
-        let opened = open_indexes(rt, &listed.paths, directory.kind)?;
+        let packs = &pack_directories.paths;
+        let opened = open_indexes(rt, purpose, packs, &listed.paths, directory.kind)?;
         let alternates = mem::replace(&mut directories.skipped, Vec::new(rt.alloc()));
         let skipped = all_skipped(rt.alloc(), alternates, listed.skipped, opened.skipped)?;
         Ok(DirectoryStore {
             rt: rt.clone()?,
             directory: copy_of(directory)?,
+            purpose,
             is_settled: is_store_settled(listed.are_all, &skipped, &pack_directories, now),
             directories,
             pack_directories,
@@ -228,17 +251,18 @@ impl<R: StoreFiles> DirectoryStore<R> {
     ///
     /// ```
     /// let (directory, loose) = (find_objects(rt)?, LooseIds::WithFirstByte(0x4b));
-    /// let now = SystemTime::now(rt)?;
-    /// let mut store = DirectoryStore::open_for_refresh(rt, &directory, loose, now)?;
+    /// let (purpose, now) = (Purpose::Ids, SystemTime::now(rt)?);
+    /// let mut store = DirectoryStore::open_for_refresh(rt, &directory, purpose, loose, now)?;
     /// let is_same = store.refresh(loose, SystemTime::now(rt)?)?;
     /// ```
     pub fn refresh(&mut self, loose: LooseIds, now: SystemTime) -> Result<bool, Error>
         ensures kind { self.new.directory.kind ≡ self.old.directory.kind }
+        ensures purpose { self.new.purpose ≡ self.old.purpose }
         ensures place { place_of self.new.directory ≡ place_of self.old.directory }
         ensures answers { R.answers self.new.rt ≡ R.answers self.old.rt }
         ensures objects { OnOk result (self.new.skipped.items ≡ [] → IfKnown (λ at. HasAllOf at
-            self.new.loose.which self.new.directory (⟦<DirectoryStore<R> as Store>⟧.view self.new))
-            (R.answers self.new.rt)) }
+            self.new.purpose self.new.loose.which self.new.directory
+            (⟦<DirectoryStore<R> as Store>⟧.view self.new)) (R.answers self.new.rt)) }
         ensures listed { IfOk result (λ _. self.new.loose.which ≡ loose) }
         ensures same { IfOk result (λ is_same. is_same ≡ true
             → (self.new.indexes.items ≡ self.old.indexes.items)
@@ -253,13 +277,15 @@ impl<R: StoreFiles> DirectoryStore<R> {
         // Its files are closed before as many are opened. If that fails, the next call opens them.
         self.close()?;
         let now = Some(now);
-        *self = DirectoryStore::open_at(&self.rt, &self.directory, loose, now, now)?;
+        let purpose = self.purpose;
+        *self = DirectoryStore::open_at(&self.rt, &self.directory, purpose, loose, now, now)?;
         Ok(false)
     }
 
     // Closes all pack indexes. What is skipped says that the store has changed.
     fn close(&mut self) -> Result<(), Error>
         ensures directory { self.new.directory ≡ self.old.directory }
+        ensures purpose { self.new.purpose ≡ self.old.purpose }
         ensures rt { self.new.rt ≡ self.old.rt }
         ensures settled { OnOk result (self.new.is_settled ≡ false) }
         ensures closed { OnOk result (self.new.indexes.items ≡ []) }
@@ -278,6 +304,7 @@ impl<R: StoreFiles> DirectoryStore<R> {
     // The same, except that a change of packs or alternates is an error.
     fn look_again(&mut self, loose: LooseIds, now: SystemTime) -> Result<bool, Error>
         ensures directory { self.new.directory ≡ self.old.directory }
+        ensures purpose { self.new.purpose ≡ self.old.purpose }
         ensures rt { self.new.rt ≡ self.old.rt }
         ensures listed { IfOk result (λ _. self.new.loose.which ≡ loose) }
         ensures indexes { self.new.indexes.items ≡ self.old.indexes.items }
@@ -319,6 +346,7 @@ impl<R: StoreFiles> DirectoryStore<R> {
             self.new.directory.kind (map string_bytes self.new.directories.paths.items) objects)
             (R.answers self.new.rt) ∥₁) }
         ensures directory { self.new.directory ≡ self.old.directory }
+        ensures purpose { self.new.purpose ≡ self.old.purpose }
         ensures rt { self.new.rt ≡ self.old.rt }
         ensures indexes { self.new.indexes.items ≡ self.old.indexes.items }
         ensures loose { self.new.loose ≡ self.old.loose }
@@ -348,9 +376,9 @@ impl<R: StoreFiles> DirectoryStore<R> {
     pub fn skipped(&self) -> &[Error]
         ensures value { result.now ≡ self.now.skipped.items }
         ensures objects { self.now.skipped.items ≡ [] → IfKnown (λ at. HasAllOf at
-            self.now.loose.which self.now.directory (⟦<DirectoryStore<R> as Store>⟧.view self.now))
-            (R.answers self.now.rt) }
-        ensures reasons { HaveReasons (R.answers self.now.rt) self.now.directory
+            self.now.purpose self.now.loose.which self.now.directory
+            (⟦<DirectoryStore<R> as Store>⟧.view self.now)) (R.answers self.now.rt) }
+        ensures reasons { HaveReasons (R.answers self.now.rt) self.now.purpose self.now.directory
             (map index_path self.now.packs.items) self.now.skipped.items }
     {
         &self.skipped
@@ -412,6 +440,7 @@ impl<R: StoreFiles> DirectoryStore<R> {
     // Takes the place of itself, as the store is now. Under an error it has what it had.
     fn open_again(&mut self) -> Result<(), Error>
         ensures kind { self.new.directory.kind ≡ self.old.directory.kind }
+        ensures purpose { self.new.purpose ≡ self.old.purpose }
         ensures place { place_of self.new.directory ≡ place_of self.old.directory }
         ensures answers { R.answers self.new.rt ≡ R.answers self.old.rt }
         ensures listed { self.new.loose.which ≡ self.old.loose.which }
@@ -422,7 +451,9 @@ impl<R: StoreFiles> DirectoryStore<R> {
         ensures loose { IfErr result (λ _. self.new.loose ≡ self.old.loose) }
     {
         self.skipped_before.reserve(self.skipped.len())?;
-        let store = DirectoryStore::open(&self.rt, &self.directory, self.loose.which)?;
+        let loose = self.loose.which;
+        let directory = &self.directory;
+        let store = DirectoryStore::open_at(&self.rt, directory, self.purpose, loose, None, None)?;
         let before = mem::replace(self, store);
         self.skipped_before = before.into_skipped();
         Ok(())
@@ -571,10 +602,11 @@ impl<R: StoreFiles> Reopen for DirectoryStore<R> {
 
     ghost had = { λ first store view. (place_of store.directory ≡ place_of first.directory)
         × (R.answers store.rt ≡ R.answers first.rt)
+        × (store.purpose ≡ first.purpose)
         × (store.loose.which ≡ first.loose.which)
         × (view.kind ≡ first.directory.kind)
         × (store.skipped_before.items ++ store.skipped.items ≡ [] → IfKnown (λ at.
-        HasAllOf at first.loose.which first.directory view) (R.answers first.rt)) };
+        HasAllOf at first.purpose first.loose.which first.directory view) (R.answers first.rt)) };
 
     fn reopen(&mut self) -> bool {
         self.failed = self.open_again().err();

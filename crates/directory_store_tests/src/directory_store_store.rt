@@ -6,7 +6,7 @@ ghost use Rattle.directory_store.specs.Stores.{only_of};
 use crate::expecting::{expect, expect_ids, expect_printed};
 use crate::moving::{Move, Moving};
 use crate::object_directories::{BOTH, Bytes, Index, LOOSE, PACKED, make};
-use directory_store::{DirectoryStore, Error, LooseIds};
+use directory_store::{DirectoryStore, Error, LooseIds, Purpose};
 use gix_hash::{ObjectId, Prefix};
 use object_store::{Store, lookup_prefix};
 use pack_index::LazyError;
@@ -453,7 +453,8 @@ fn packs_are_listed_once_to_be_refreshed(rt: HostRuntime) -> Result<(), Fail> {
     let directory = ObjectDirectory::at(&rt, "once/objects")?;
     let now = SystemTime::now(&rt)?.checked_add(Duration::from_secs(60));
     let now = now.expect(&rt, "no time");
-    let mut store = DirectoryStore::open_for_refresh(&moving, &directory, FRESH, now)?;
+    let purpose = Purpose::Ids;
+    let mut store = DirectoryStore::open_for_refresh(&moving, &directory, purpose, FRESH, now)?;
     let ended = expect_listed_once(&rt, &mut store, &listed, now);
     drop(store);
     ended?;

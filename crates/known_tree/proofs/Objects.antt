@@ -1,5 +1,5 @@
 -- Which objects the tree has.
-use Rattle.gix_hash.proofs.Std.{◌≡◌, ◌∙◌, ◌++◌, ◌∷◌, [], ℕ, ◌<◌, All, Contains, Contains-append_cases, Contains-append_left, Contains-append_right, List, Ok, Some, ap, arith, bytes_decides, codes, drop, filter, filter_passes, inl, inr, length, length-drop, length-map, ltb-true, map, nat_lt, refl, string_bytes, subst, sym, take, take-append-drop, true, unwrap_or}
+use Rattle.gix_hash.proofs.Std.{◌≡◌, ◌≢◌, ◌∙◌, ◌++◌, ◌∷◌, [], ℕ, ◌<◌, All, Contains, Contains-append_cases, Contains-append_left, Contains-append_right, List, Ok, Some, ap, arith, bytes_decides, codes, drop, false≢true, filter, filter_passes, inl, inr, is_ok, length, length-drop, length-map, ltb-true, map, nat_lt, refl, string_bytes, subst, sym, take, take-append-drop, true, unwrap_or}
 use Rattle.std.specs.Global.{Global}
 use Rattle.std.specs.Prelude.{String}
 use Rattle.std.specs.Path.{path_join}
@@ -16,9 +16,11 @@ use Rattle.pack_index.specs.Format.{HasCounts, ids_in}
 use Rattle.repositories.specs.Answers.{Answers}
 use Rattle.repositories.specs.Walks.{visit_below, with_alternates}
 use Rattle.directory_store.specs.Loose.{HasLoose, bytes_asked}
-use Rattle.directory_store.specs.Opened.{AreObjects, HasIndex, HasObject, HaveCounts}
+use Rattle.directory_store.specs.Multi.{Multi, multi_path}
+use Rattle.directory_store.specs.Opened.{AreObjects, AreRight, HasIndex, HasObject, HaveCounts}
 use Rattle.directory_store.specs.Packs.{if_listed, is_index_name, packs_of, split_names}
 use Rattle.directory_store.specs.declared.loose.LooseIds.TheVariants as loose_ids
+use Rattle.directory_store.specs.declared.multi.Purpose.{Purpose}
 use Rattle.directory_store.proofs.AllBytes.{only_one}
 use Rattle.known_tree.specs.Trees.{answers_in, loose_digits, loose_name, names_at}
 
@@ -69,9 +71,20 @@ module _ (index : List ℕ) where
       sym (take-append-drop 2 digits) ∙ (λ i. front i ++ back i)
 
   -- the fan-out table of its pack index is right
-  pub counts : HasCounts Sha1 index → HaveCounts at Sha1 (codes "o" ∷ [])
-  counts right directory path has file =
-      (index, ap at.bytes (index_path path (subst (λ d. HasIndex at d path) (only_one _ _ has) file)), right)
+  counts : HasCounts Sha1 index → HaveCounts at Sha1 (codes "o" ∷ [])
+  counts counted directory path has file =
+      (index, ap at.bytes (index_path path (subst (λ d. HasIndex at d path) (only_one _ _ has) file)), counted)
+
+  -- it has no multi-pack-index
+  no_multi : (multi : Multi) → Contains (map packs_of (codes "o" ∷ [])) multi.packs → at.bytes (multi_path multi) ≢ Ok multi.bytes
+  unfolding path_join
+  no_multi multi has is =
+      let same = only_one (packs_of (codes "o")) multi.packs has in
+      false≢true (ap is_ok (subst (λ packs. at.bytes (path_join packs (codes "multi-pack-index")) ≡ Ok multi.bytes) same is))
+
+  -- what is read of it is right
+  pub right : HasCounts Sha1 index → (purpose : Purpose) → AreRight at purpose Sha1 (codes "o" ∷ [])
+  right counted purpose = record { counts = counts counted; ids = λ _ multi place is read named. absurd (no_multi multi place is) }
 
   -- its objects are those of the pack index, and the loose one
   pub objects : (ids : List (List ℕ)) → IsIndexOf Sha1 (ids_in Sha1 index ++ loose_digits ∷ []) ids → AreObjects at Sha1 loose_ids.All (codes "o" ∷ []) ids

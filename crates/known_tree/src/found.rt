@@ -1,8 +1,9 @@
 //! What a prefix finds in a store, by what directories and files answer.
 
 ghost use Rattle.std.specs.Prelude.{◌≡◌, ◌≤◌, ℕ, IfOk, IfSome, List, length, map};
-ghost use Rattle.directory_store.specs.Opened.{AreObjects, AreWithAlternates, HaveCounts};
+ghost use Rattle.directory_store.specs.Opened.{AreObjects, AreRight, AreWithAlternates};
 ghost use Rattle.directory_store.specs.declared.loose.LooseIds.{LooseIds};
+ghost use Rattle.directory_store.specs.declared.multi.Purpose.TheVariants.{Locations};
 ghost use Rattle.id_lookup.specs.Words.{id_digits, matches};
 ghost use Rattle.repositories.specs.Answers.{IfKnown};
 
@@ -21,7 +22,7 @@ pub fn matches_of<R: StoreFiles>(
     requires kind { prefix.now.kind ≡ directory.now.kind }
     ensures { IfOk result (λ found. IfSome found (λ ids. IfKnown (λ at.
         (directories : List (List ℕ)) × AreWithAlternates at directory.now directories
-        × ((objects : List (List ℕ)) → HaveCounts at directory.now.kind directories
+        × ((objects : List (List ℕ)) → AreRight at Locations directory.now.kind directories
         → AreObjects at directory.now.kind LooseIds.All directories objects
         → map id_digits ids.items ≡ matches prefix.now.digits objects)) (R.answers rt.now))) }
 {

@@ -13,11 +13,12 @@ use Rattle.object_store.specs.declared.locations.LocatedId.{LocatedId}
 use Rattle.object_store.specs.declared.abbreviations.AbbreviatedId.{AbbreviatedId}
 use Rattle.repositories.specs.Answers.{Answers}
 use Rattle.repositories.specs.declared.finding.ObjectDirectory.{ObjectDirectory}
-use Rattle.directory_store.specs.Opened.{AreObjects, AreWithAlternates, HasAll, HaveCounts}
+use Rattle.directory_store.specs.Opened.{AreObjects, AreRight, AreWithAlternates, HasAll}
 use Rattle.directory_store.specs.Stores.{IsListedBy}
 use Rattle.directory_store.specs.declared.error.Error.{Error}
 use Rattle.directory_store.specs.declared.loose.LooseIds.{LooseIds}
 use Rattle.directory_store.specs.declared.loose.LooseIds.TheVariants as loose_ids
+use Rattle.directory_store.specs.declared.multi.Purpose.{Purpose}
 use Rattle.directory_store.proofs.AllBytes.{found_of_all, abbreviation_of_all}
 use Rattle.packtool_commands.specs.Stores.{AreAbbreviatedBelow, HasAnsweredEach, IsTextOf, abbreviation_text, found_text, id_line, limit_for, line_with, located_lines, no_answer, no_abbreviation, prefix_of, prefixes_of}
 use Rattle.packtool_commands.specs.declared.printing.Wanted.{Wanted}
@@ -55,8 +56,8 @@ map-limited : (limit : Option ℕ) (ids : List ObjectId) → map id_digits (limi
 map-limited None ids = refl
 map-limited (Some n) ids = sym (take-map id_digits n ids)
 
-module _ (at : Answers) (directories objects : List (List ℕ)) (which : LooseIds) (view : StoreView) (has : HasAll at which directories view)
-    (counted : HaveCounts at view.kind directories) (are : AreObjects at view.kind loose_ids.All directories objects) where
+module _ (at : Answers) (purpose : Purpose) (directories objects : List (List ℕ)) (which : LooseIds) (view : StoreView) (has : HasAll at purpose which directories view)
+    (right : AreRight at purpose view.kind directories) (are : AreObjects at view.kind loose_ids.All directories objects) where
   -- prefixes that can be looked up
   abbrev CanAsk : KindDigits → Type 0
   CanAsk prefix = (2 ≤ length prefix.digits) × IsListedBy which (first_byte_of prefix.digits)
@@ -64,7 +65,7 @@ module _ (at : Answers) (directories objects : List (List ℕ)) (which : LooseId
   matches_are : (prefix : KindDigits) (ids : Vec ObjectId Global) → CanAsk prefix → AreMatches view prefix.digits ids.items
       → map id_digits ids.items ≡ matches prefix.digits objects
   matches_are prefix ids can found =
-      found_of_all at which directories objects view has counted are prefix.digits found.read (map id_digits ids.items) can.1 can.0 found.ids_read found.index
+      found_of_all at purpose which directories objects view has right are prefix.digits found.read (map id_digits ids.items) can.1 can.0 found.ids_read found.index
 
   abbrev id_of : LocatedId Global → List ℕ
   id_of located = id_digits located.id
@@ -73,7 +74,7 @@ module _ (at : Answers) (directories objects : List (List ℕ)) (which : LooseId
       → AreLocated (limit_for wanted) view loose_paths prefix.digits ids.items → map id_of ids.items ≡ limited_to (limit_for wanted) (matches prefix.digits objects)
   located_are wanted loose_paths prefix ids can located =
       let found = located.are_matches in
-      let are_ids = found_of_all at which directories objects view has counted are prefix.digits found.read (map id_digits located.ids) can.1 can.0 found.ids_read found.index in
+      let are_ids = found_of_all at purpose which directories objects view has right are prefix.digits found.read (map id_digits located.ids) can.1 can.0 found.ids_read found.index in
       sym (map-map id_digits (λ (l : LocatedId Global). l.id) ids.items) ∙ ap (map id_digits) located.first ∙ map-limited (limit_for wanted) located.ids
       ∙ ap (limited_to (limit_for wanted)) are_ids
 
@@ -81,7 +82,7 @@ module _ (at : Answers) (directories objects : List (List ℕ)) (which : LooseId
       → IsAbbreviatedAs least view.kind objects (matches prefix.digits objects) abbreviated
   abbreviation_is least two prefix abbreviated can is =
       let found : is.found ≡ matches prefix.digits objects =
-      found_of_all at which directories objects view has counted are prefix.digits is.read is.found can.1 can.0 is.ids_read is.index in
+      found_of_all at purpose which directories objects view has right are prefix.digits is.read is.found can.1 can.0 is.ids_read is.index in
       by abbreviated is.says found
     where
       by : (abbreviated : Abbreviation) → IsAbbreviatedAs least view.kind is.read is.found abbreviated → is.found ≡ matches prefix.digits objects
@@ -94,7 +95,7 @@ module _ (at : Answers) (directories objects : List (List ℕ)) (which : LooseId
           let begins = kept_passes (λ x. starts_with nat_eq x prefix.digits) is.read id ((is.index.members id).0 there) in
           let same : first_byte_of prefix.digits ≡ first_byte_of id = sym (first_byte_of-begins id prefix.digits can.0 begins) in (
             sym found ∙ only,
-            abbreviation_of_all at which directories objects view has counted are is.read least id abbreviated.abbreviation.digits (subst (IsListedBy which) same can.1)
+            abbreviation_of_all at purpose which directories objects view has right are is.read least id abbreviated.abbreviation.digits (subst (IsListedBy which) same can.1)
                 (subst (λ byte. AreIdsRead view byte is.read) same is.ids_read) two name,
             of_kind,
           )
@@ -147,8 +148,8 @@ module _ (at : Answers) (directories objects : List (List ℕ)) (which : LooseId
           })
 
 -- the abbreviations of all objects, of each first byte in one of the stores that were seen
-module _ (at : Answers) (directories objects : List (List ℕ)) (kind : Kind) (counted : HaveCounts at kind directories) (are : AreObjects at kind loose_ids.All directories objects)
-    (Sees : StoreView → Type 0) (all : (view : StoreView) → Sees view → (view.kind ≡ kind) × HasAll at loose_ids.All directories view) (least : ℕ) (two : 2 ≤ least) where
+module _ (at : Answers) (purpose : Purpose) (directories objects : List (List ℕ)) (kind : Kind) (right : AreRight at purpose kind directories) (are : AreObjects at kind loose_ids.All directories objects)
+    (Sees : StoreView → Type 0) (all : (view : StoreView) → Sees view → (view.kind ≡ kind) × HasAll at purpose loose_ids.All directories view) (least : ℕ) (two : 2 ≤ least) where
   abbrev IsAbbreviatedOne : AbbreviatedId → Type 0
   IsAbbreviatedOne n = IsAbbreviationIn least objects (id_digits n.id) n.abbreviation.digits
 
@@ -163,11 +164,11 @@ module _ (at : Answers) (directories objects : List (List ℕ)) (kind : Kind) (c
       let seen = all view sees in
       let prefix : List ℕ = n / 16 ∷ n % 16 ∷ [] in
       let byte : n ≡ first_byte_of prefix = omega arith in
-      let counted' = subst (λ k. HaveCounts at k directories) (sym seen.0) counted in
+      let right' = subst (λ k. AreRight at purpose k directories) (sym seen.0) right in
       let are' = subst (λ k. AreObjects at k loose_ids.All directories objects) (sym seen.0) are in
       let listed : (byte : ℕ) → IsListedBy loose_ids.All byte = λ byte only none. absurd (cc none) in
       let ids : map digits_of part ≡ matches prefix objects =
-      found_of_all at loose_ids.All directories objects view seen.1 counted' are' prefix is.read (map digits_of part) (listed _) (omega arith)
+      found_of_all at purpose loose_ids.All directories objects view seen.1 right' are' prefix is.read (map digits_of part) (listed _) (omega arith)
       (subst (λ b. AreIdsRead view b is.read) byte is.ids_read) is.index in
       let abbreviations : All IsAbbreviatedOne part = λ k d low.
       let id = digits_of (get_or part k d) in
@@ -175,7 +176,7 @@ module _ (at : Answers) (directories objects : List (List ℕ)) (kind : Kind) (c
       subst (Contains (map digits_of part)) (get_or-map digits_of part k d [] low) (Contains-get_or (map digits_of part) k [] (omega (arith, low, length-map part digits_of))) in
       let begins = kept_passes (λ x. starts_with nat_eq x prefix) is.read id ((is.index.members id).0 there) in
       let same : n ≡ first_byte_of id = byte ∙ sym (first_byte_of-begins id prefix (omega arith) begins) in
-      abbreviation_of_all at loose_ids.All directories objects view seen.1 counted' are' is.read least id _ (listed _) (subst (λ b. AreIdsRead view b is.read) same is.ids_read) two (is.abbreviations k d low) in (
+      abbreviation_of_all at purpose loose_ids.All directories objects view seen.1 right' are' is.read least id _ (listed _) (subst (λ b. AreIdsRead view b is.read) same is.ids_read) two (is.abbreviations k d low) in (
         ap (map digits_of) both ∙ map-append digits_of before part ∙ ap₂ (λ (front back : List (List ℕ)). front ++ back) rest.0 ids,
         subst (All IsAbbreviatedOne) (sym both) (All-append IsAbbreviatedOne before part rest.1 abbreviations),
       )

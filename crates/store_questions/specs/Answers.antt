@@ -15,6 +15,8 @@ use Rattle.repositories.specs.declared.finding.ObjectDirectory.{ObjectDirectory}
 use Rattle.directory_store.specs.Opened.{HasAllOf, place_of}
 use Rattle.directory_store.specs.Stores.{IsListedBy}
 use Rattle.directory_store.specs.declared.loose.LooseIds.{LooseIds}
+use Rattle.directory_store.specs.declared.multi.Purpose.{Purpose}
+use Rattle.directory_store.specs.declared.multi.Purpose.TheVariants.{Ids, Locations}
 use Rattle.packtool_commands.specs.declared.printing.NoAnswer.{NoAnswer}
 use Rattle.directory_store.specs.declared.error.Error.{Error}
 
@@ -29,6 +31,11 @@ HasAnsweredLines A Find wanted least pack_path loose_paths view lines why old ne
 HasAnsweredLines A Locate wanted least pack_path loose_paths view lines why old new = HasLocatedEach A wanted pack_path loose_paths view lines why old new
 HasAnsweredLines A Abbreviate wanted least pack_path loose_paths view lines why old new = HasAbbreviatedEach least view lines why old new
 
+-- what a store is asked for a question
+abbrev pub purpose_of : Question → Purpose
+purpose_of Locate = Locations
+purpose_of _ = Ids
+
 -- a store of an object directory was asked for lines and answered with a status. It has all objects that directories and files answer, unless something is
 -- skipped, and lists the loose objects that the lines may begin
 pub record HasAsked (A : Type 0) (question : Question) (least : ℕ) (wanted : Wanted) (directory : ObjectDirectory) (known : Option Answers) (which : LooseIds)
@@ -38,7 +45,7 @@ pub record HasAsked (A : Type 0) (question : Question) (least : ℕ) (wanted : W
   pub answered : HasAnsweredLines A question wanted least pack_path loose_paths view lines why old new
   pub kind : view.kind ≡ directory.kind
   pub listed : All (λ (prefix : KindDigits). IsListedBy which (first_byte_of prefix.digits)) (prefixes_of view.kind lines)
-  pub objects : skipped ≡ [] → IfKnown (λ at. HasAllOf at which directory view) known
+  pub objects : skipped ≡ [] → IfKnown (λ at. HasAllOf at (purpose_of question) which directory view) known
 
 -- a text was answered in n parts of whole lines, one after the other, and the worst of their statuses is this: `IsAnswer` says what was written for a part, by
 -- what answered it as that was then, which is `last` for the last part
@@ -72,6 +79,6 @@ abbrev pub checked_of : {P : Type 0} → Question → List P → List P
 checked_of Locate prefixes = prefixes
 checked_of _ prefixes = []
 
--- a store is that of an object directory, by what directories and files answer
-abbrev pub IsStoreOf : ObjectDirectory → Option Answers → ObjectDirectory → Option Answers → Type 0
-IsStoreOf directory answers own known = (own.kind ≡ directory.kind) × (place_of own ≡ place_of directory) × (known ≡ answers)
+-- a store is that of an object directory, opened for a purpose, by what directories and files answer
+abbrev pub IsStoreOf : ObjectDirectory → Purpose → Option Answers → ObjectDirectory → Purpose → Option Answers → Type 0
+IsStoreOf directory purpose answers own asked known = (own.kind ≡ directory.kind) × (place_of own ≡ place_of directory) × (asked ≡ purpose) × (known ≡ answers)

@@ -5,12 +5,12 @@ ghost use Rattle.std.specs.Option.{ForSome};
 ghost use Rattle.packtool_commands.specs.Stores.{prefix_of};
 ghost use Rattle.packtool_commands.specs.declared.printing.Wanted.{Wanted};
 ghost use Rattle.packtool_commands.specs.declared.printing.NoAnswer.{NoAnswer};
-ghost use Rattle.directory_store.specs.Opened.{AreObjects, AreWithAlternates, HaveCounts};
+ghost use Rattle.directory_store.specs.Opened.{AreObjects, AreRight, AreWithAlternates};
 ghost use Rattle.directory_store.specs.declared.loose.LooseIds.{LooseIds};
 ghost use Rattle.repositories.specs.Answers.{Answers, IfKnown};
 ghost use Rattle.repositories.specs.declared.finding.ObjectDirectory.{ObjectDirectory};
 ghost use Rattle.streams.specs.Devices.{plain_failed, plain_inner};
-ghost use Rattle.store_questions.specs.Answers.{HasAnsweredParts, IsAnswered, IsChunkAnswered};
+ghost use Rattle.store_questions.specs.Answers.{HasAnsweredParts, IsAnswered, IsChunkAnswered, purpose_of};
 ghost use Rattle.store_questions.specs.WholeLines.{AreWhole, made_whole};
 ghost use Rattle.store_questions.specs.Written.{HasWritten};
 ghost use Rattle.store_questions.specs.declared.failure.Failure.{Failure};
@@ -45,10 +45,11 @@ pub fn answer<'a>(rt: &HostRuntime, request: &StoreRequest<'a>) -> Result<u8, Fa
 /// input if it asks for lines, and writes it. `host` has the allocator, the clock and standard
 /// error, where what is skipped is reported.
 ///
-/// As long as directories and files answer the same, and the fan-out table of each pack index is
-/// right, a call that returns 0 or 1 has written exactly what the objects of the directory and its
-/// alternates answer: for `find` the ids that begin with each prefix, and for `abbreviate` the
-/// shortest prefix of each id with which no other one begins. Of `locate` this is so for the ids,
+/// As long as directories and files answer the same, the fan-out table of each pack index is right,
+/// and the ids of each multi-pack-index are those of the packs that it names, a call that returns 0
+/// or 1 has written exactly what the objects of the directory and its alternates answer: for `find`
+/// the ids that begin with each prefix, and for `abbreviate` the shortest prefix of each id with
+/// which no other one begins. Of `locate`, which reads no multi-pack-index, this is so for the ids,
 /// and not for their locations.
 pub fn answer_in<'a, R: StoreFiles, I: io::Read + Drop, W: io::Write + Drop>(
     host: &HostRuntime,
@@ -62,7 +63,7 @@ pub fn answer_in<'a, R: StoreFiles, I: io::Read + Drop, W: io::Write + Drop>(
     ensures output { OnOk result (plain_failed out.new ≡ false) }
     ensures written { IfOk result (λ status. status ≤ 1 → IfKnown (λ at.
         (directories objects : List (List ℕ)) → AreWithAlternates at directory.now directories
-        → HaveCounts at directory.now.kind directories
+        → AreRight at (purpose_of request.now.question) directory.now.kind directories
         → AreObjects at directory.now.kind LooseIds.All directories objects
         → HasWritten request.now.question (max request.now.least 4) directory.now.kind objects
         (I.remaining input) request.now.ask

@@ -14,7 +14,7 @@ ghost use Rattle.packtool_commands.specs.declared.error.StoreError.{StoreError};
 ghost use Rattle.repositories.specs.Answers.{IfKnown};
 ghost use Rattle.streams.specs.Devices.{plain_failed, plain_inner};
 ghost use Rattle.streams.specs.Streams.{lines_of};
-ghost use Rattle.store_questions.specs.Answers.{HasAnsweredLines, HasAsked, IsStatus, IsStoreOf, checked_of};
+ghost use Rattle.store_questions.specs.Answers.{HasAnsweredLines, HasAsked, IsStatus, IsStoreOf, checked_of, purpose_of};
 ghost use Rattle.store_questions.specs.Failures.{failure_of};
 ghost use Rattle.store_questions.specs.Written.{HasWrittenAll, HasWrittenLines};
 ghost use Rattle.store_questions.specs.declared.failure.Failure.{Failure};
@@ -24,7 +24,7 @@ use crate::failure::{Failure, skipped_mark};
 use crate::output::{buffered, write_report};
 use crate::request::{Question, StoreRequest};
 use crate::{FAILED, FOUND, NOTHING};
-use directory_store::{DirectoryStore, Error, LooseIds, StoreFiles};
+use directory_store::{DirectoryStore, Error, LooseIds, Purpose, StoreFiles};
 use gix_hash::{Kind, Prefix};
 use object_store::{Reopen, Store, StorePaths};
 use packtool_commands::{
@@ -57,8 +57,9 @@ pub(crate) struct Asked<'r, R: StoreFiles> {
     reported: BTreeSet<String>,
     ghost enough: { 4 ≤ least },
     ghost fits: { least ≤ hex_len_of directory.now.kind },
-    ghost kept_is_of: { ForSome kept (λ store. IsStoreOf directory.now (R.answers rt.now)
-        store.directory (R.answers store.rt)) } by { Prim.hlevel props },
+    ghost kept_is_of: { ForSome kept (λ store. IsStoreOf directory.now (purpose_of question)
+        (R.answers rt.now) store.directory store.purpose
+        (R.answers store.rt)) } by { Prim.hlevel props },
 }
 
 impl<'r, R: StoreFiles> Asked<'r, R> {
@@ -97,16 +98,25 @@ impl<R: StoreFiles> Asked<'_, R> {
         ensures output { OnOk result (plain_failed out.new ≡ false) }
         ensures answered { IfOk result (λ status. IsSomeAnd self.new.kept (λ store. (any : Bool)
             × IsStatus (store.skipped_before.items ++ store.skipped.items) any status
-            × (first : _) × IsStoreOf self.old.directory.now (R.answers self.old.rt.now)
-            first.directory (R.answers first.rt) × (first.loose.which ≡ LooseIds.All)
+            × (first : _) × IsStoreOf self.old.directory.now (purpose_of self.old.question)
+            (R.answers self.old.rt.now) first.directory first.purpose (R.answers first.rt)
+            × (first.loose.which ≡ LooseIds.All)
             × HasAbbreviatedBelow 256 self.old.least
             (⟦<DirectoryStore<R> as Reopen>⟧.had first store) any
             (W.contents (plain_inner out.old)) (W.contents (plain_inner out.new)))) }
-        ensures written { IfOk result (λ status. HasWrittenAll self.old.least
+        ensures written { IfOk result (λ status. HasWrittenAll self.old.question self.old.least
             self.old.directory.now (R.answers self.old.rt.now) status
             (W.contents (plain_inner out.old)) (W.contents (plain_inner out.new))) }
     {
-        let mut store = DirectoryStore::open(self.rt, self.directory, LooseIds::All)?;
+        let now = now_or_before(self.host);
+        let (purpose, all) = (purpose_of(self.question), LooseIds::All);
+        let mut store = DirectoryStore::open_for_refresh(
+            self.rt,
+            self.directory,
+            purpose,
+            all,
+            now,
+        )?;
         let ran = abbreviate_all(self.host.alloc(), &mut store, self.least, out);
         let was_whole = report_skipped(self.host, store.skipped_before(), &mut self.reported);
         let kept = self.keep(store, ran, out)?;
@@ -155,6 +165,7 @@ impl<R: StoreFiles> Asked<'_, R> {
             self.host,
             self.rt,
             self.directory,
+            purpose_of(self.question),
             self.kept.take(),
             loose,
             checked,
@@ -180,15 +191,15 @@ impl<R: StoreFiles> Asked<'_, R> {
         ran: Result<T, StoreError>,
         out: &Plain<W>,
     ) -> Result<(T, bool), Failure<'a>>
-        requires of { IsStoreOf self.old.directory.now (R.answers self.old.rt.now)
-            store.directory (R.answers store.rt) }
+        requires of { IsStoreOf self.old.directory.now (purpose_of self.old.question)
+            (R.answers self.old.rt.now) store.directory store.purpose (R.answers store.rt) }
         requires output { IsErrOf ran StoreError.Output ↔ (plain_failed out.now ≡ true) }
         ensures ran { IfOk result (λ kept. ran ≡ Ok kept.0) }
         ensures whole { IfOk result (λ kept. IsTrue kept.1 ↔ (store.skipped.items ≡ [])) }
         ensures kept { OnOk result (self.new.kept ≡ Some store) }
         ensures objects { OnOk result (store.skipped.items ≡ [] → IfKnown (λ at. HasAllOf at
-            store.loose.which store.directory (⟦<DirectoryStore<R> as Store>⟧.view store))
-            (R.answers store.rt)) }
+            store.purpose store.loose.which store.directory
+            (⟦<DirectoryStore<R> as Store>⟧.view store)) (R.answers store.rt)) }
         ensures question { self.new.question ≡ self.old.question }
         ensures least { self.new.least ≡ self.old.least }
         ensures directory { self.new.directory ≡ self.old.directory }
@@ -223,7 +234,7 @@ impl<R: StoreFiles> AnswerLines for Asked<'_, R> {
         new };
 
     ghost has_all = { λ (question, least, directory, known) asked status old new. HasWrittenAll
-        least directory known status old new };
+        question least directory known status old new };
 
     fn write_all<'a, W: io::Write>(&mut self, out: &mut Plain<W>) -> Result<u8, Failure<'a>> {
         self.write_all_abbreviations(out)
@@ -236,6 +247,16 @@ impl<R: StoreFiles> AnswerLines for Asked<'_, R> {
         out: &mut Plain<W>,
     ) -> Result<(u8, Option<NoAnswer>), Failure<'a>> {
         self.write_lines(lines, wanted, out)
+    }
+}
+
+// What a store is asked for a question.
+fn purpose_of(question: Question) -> Purpose
+    ensures { result ≡ purpose_of question }
+{
+    match question {
+        Question::Locate => Purpose::Locations,
+        Question::Find | Question::Abbreviate => Purpose::Ids,
     }
 }
 
@@ -283,32 +304,38 @@ fn failure_of<'a, R: StoreFiles>(
     }
 }
 
-// The store as it is now: the one that was kept, if there is one, refreshed. The files of loose
-// objects whose ids begin with one of the prefixes are checked.
+// The time, or one that is before all others if it is not known.
+fn now_or_before(host: &HostRuntime) -> SystemTime {
+    SystemTime::now(host).unwrap_or(UNIX_EPOCH)
+}
+
+// The store as it is now, for a purpose: the one that was kept, if there is one, refreshed. The
+// files of loose objects whose ids begin with one of the prefixes are checked.
 fn store_now<'a, R: StoreFiles>(
     host: &HostRuntime,
     rt: &R,
     directory: &ObjectDirectory,
+    purpose: Purpose,
     kept: Option<DirectoryStore<R>>,
     loose: LooseIds,
     checked: &[Prefix],
 ) -> Result<DirectoryStore<R>, Failure<'a>>
-    requires { ForSome kept (λ store. IsStoreOf directory.now (R.answers rt.now) store.directory
-        (R.answers store.rt)) }
-    ensures of { IfOk result (λ store. IsStoreOf directory.now (R.answers rt.now) store.directory
-        (R.answers store.rt)) }
+    requires { ForSome kept (λ store. IsStoreOf directory.now purpose (R.answers rt.now)
+        store.directory store.purpose (R.answers store.rt)) }
+    ensures of { IfOk result (λ store. IsStoreOf directory.now purpose (R.answers rt.now)
+        store.directory store.purpose (R.answers store.rt)) }
     ensures listed { IfOk result (λ store. store.loose.which ≡ loose) }
     ensures objects { IfOk result (λ store. store.skipped.items ≡ [] → IfKnown (λ at. HasAllOf at
-        store.loose.which store.directory (⟦<DirectoryStore<R> as Store>⟧.view store))
-        (R.answers store.rt)) }
+        store.purpose store.loose.which store.directory
+        (⟦<DirectoryStore<R> as Store>⟧.view store)) (R.answers store.rt)) }
 {
-    let now = SystemTime::now(host).unwrap_or(UNIX_EPOCH);
+    let now = now_or_before(host);
     let store = match kept {
         Some(mut store) => {
             store.refresh(loose, now)?;
             store
         }
-        None => DirectoryStore::open_for_refresh(rt, directory, loose, now)?,
+        None => DirectoryStore::open_for_refresh(rt, directory, purpose, loose, now)?,
     };
     for prefix in checked {
         store.check_loose_files(prefix)?;

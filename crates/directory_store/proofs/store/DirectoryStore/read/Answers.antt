@@ -6,7 +6,8 @@ use Rattle.repositories.specs.Walks.{with_alternates}
 use Rattle.directory_store.specs.Loose.{AreLoose}
 use Rattle.repositories.specs.Answers.{IfKnown}
 use Rattle.directory_store.specs.Opened.{AreLooseOf, AreSkipped}
-use Rattle.directory_store.specs.Packs.{AreOpenOrDamaged, ArePacks, packs_of, tables_at, tables_seen, unnamed_in}
+use Rattle.directory_store.specs.Multi.{AreCoveredOrDamaged, AreRead}
+use Rattle.directory_store.specs.Packs.{ArePacks, packs_of, tables_seen, unnamed_in}
 use Rattle.directory_store.specs.Stores.{IsUnread, index_path, of_repository}
 use Rattle.directory_store.proofs.store.DirectoryStore.read.Given.{Over}
 use Rattle.directory_store.proofs.store.DirectoryStore.read.Goals.{In_ok-copy_of}
@@ -29,16 +30,20 @@ invariant_of-result-clause-are_opened g c = ∣ (λ none at known'.
     let directories = map string_bytes c.in_ok-directories.directories.paths.items in
     let unskipped = no_alternate of_repository c.replace-alternates.result.items c.in_ok-listed.listed.skipped.items c.in_ok-opened.opened.skipped.items (sym c.in_ok-skipped.ensures ∙ none) in
     let undamaged : c.in_ok-opened.opened.skipped.items ≡ [] = no_index _ c.in_ok-opened.opened.skipped.items (sym c.in_ok-skipped.ensures ∙ none) in
+    let places = c.in_ok-pack_directories.ensures ∙ ap (map (λ path. packs_of (string_bytes path))) c.deref.ensures.value
+    ∙ sym (map-map packs_of string_bytes c.in_ok-directories.directories.paths.items) in
+    let listed = map index_path c.in_ok-listed.listed.paths.items in
+    let paths = map index_path c.in_ok-opened.opened.paths.items in
+    let tables = tables_seen c.in_ok-opened.opened.indexes.items in
     record {
       alternates = subst (λ place. with_alternates place.0 place.1 at ≡ Some (directories, 0)) (sym c.in_ok-copy_of.ensures.place)
           (c.in_ok-directories.ensures.directories at known ∙ ap (λ n. Some (directories, n)) (ap (λ v. length v.items) (sym c.replace-alternates.ensures.value) ∙ unskipped));
       packs = c.in_ok-listed.listed.paths.items;
-      listed = subst (λ ds. ArePacks at ds c.in_ok-listed.listed.paths.items)
-          (c.in_ok-pack_directories.ensures ∙ ap (map (λ path. packs_of (string_bytes path))) c.deref.ensures.value ∙ sym (map-map packs_of string_bytes c.in_ok-directories.directories.paths.items))
-          (c.in_ok-listed.ensures.packs at known);
-      all = c.in_ok-opened.ensures.paths undamaged ∙ ap (map index_path) c.deref-3.ensures.value;
-      tables = subst (λ kind. tables_seen c.in_ok-opened.opened.indexes.items ≡ map (tables_at at kind) (map index_path c.in_ok-opened.opened.paths.items)) (sym c.in_ok-copy_of.ensures.kind)
-          (c.in_ok-opened.ensures.tables at known);
+      listed = subst (λ ds. ArePacks at ds c.in_ok-listed.listed.paths.items) places (c.in_ok-listed.ensures.packs at known);
+      read = subst (λ kind. AreRead at c.args.purpose kind (map packs_of directories) listed paths tables) (sym c.in_ok-copy_of.ensures.kind)
+          (subst (λ places. AreRead at c.args.purpose c.args.directory.now.kind places listed paths tables) (ap (map string_bytes) c.deref-3.ensures.value ∙ places)
+          (subst (λ l. AreRead at c.args.purpose c.args.directory.now.kind (map string_bytes c.deref-3.result.now) (map index_path l) paths tables) c.deref-4.ensures.value
+          (c.in_ok-opened.ensures.read undamaged at known)));
     }) ∣₁
 
 pub invariant_of-result-clause-are_loose : goal.invariant_of-result-clause-are_loose
@@ -59,7 +64,7 @@ invariant_of-result-clause-of_kind g c =
 
 -- why something of the store that is made is skipped
 module _ (g : Over) (c : In_ok-copy_of g) where
-  reasons : ∥ IfKnown (λ at. AreSkipped at c.in_ok-copy_of.field-0 (map index_path c.in_ok-opened.opened.paths.items) c.in_ok-skipped.skipped.items)
+  reasons : ∥ IfKnown (λ at. AreSkipped at c.args.purpose c.in_ok-copy_of.field-0 (map index_path c.in_ok-opened.opened.paths.items) c.in_ok-skipped.skipped.items)
       (g.R.Directories.answers c.in_ok-clone.field-0) ∥₁
   reasons = ∥∥₁_map c.in_ok-listed.listed.are_unread (λ unnamed at known'.
       let known = sym (g.met.R.StoreFiles.alike c.args.rt.now c.in_ok-clone.field-0 c.in_ok-clone.ensures.cases) ∙ known' in
@@ -82,8 +87,10 @@ module _ (g : Over) (c : In_ok-copy_of g) where
         are_unnamed = sym listed.skipped.ok.0 ∙ c.in_ok-listed.ensures.skipped at known ∙ made (unnamed_in at) string_bytes c.in_ok-pack_directories.pack_directories.paths.items ∙ ap (sum_by (unnamed_in at)) places;
         are_unread = All-append IsUnread (map of_repository alternates) listed.skipped.items (All-map IsUnread of_repository alternates (λ k d low. (get_or alternates k d, refl))) unnamed;
         listed = subst (λ ds. ArePacks at ds listed.paths.items) places (c.in_ok-listed.ensures.packs at known);
-        are_damaged = subst (λ kind. AreOpenOrDamaged at kind (map index_path listed.paths.items) opened damaged) (sym c.in_ok-copy_of.ensures.kind)
-            (subst (λ paths. AreOpenOrDamaged at c.args.directory.now.kind (map index_path paths) opened damaged) c.deref-3.ensures.value (c.in_ok-opened.ensures.skipped at known));
+        are_damaged = subst (λ kind. AreCoveredOrDamaged at c.args.purpose kind (map packs_of directories) (map index_path listed.paths.items) opened damaged) (sym c.in_ok-copy_of.ensures.kind)
+            (subst (λ ds. AreCoveredOrDamaged at c.args.purpose c.args.directory.now.kind ds (map index_path listed.paths.items) opened damaged) (ap (map string_bytes) c.deref-3.ensures.value ∙ places)
+            (subst (λ paths. AreCoveredOrDamaged at c.args.purpose c.args.directory.now.kind (map string_bytes c.deref-3.result.now) (map index_path paths) opened damaged) c.deref-4.ensures.value
+            (c.in_ok-opened.ensures.skipped at known)));
       })
 
 pub invariant_of-result-clause-have_reasons : goal.invariant_of-result-clause-have_reasons

@@ -10,15 +10,16 @@ returns-clause-reopened g c =
     record {
       kind = opened.kind;
       listed = ap only_of opened.listed;
-      before = λ first seen was. (opened.place ∙ was.0, opened.answers ∙ was.1, opened.listed ∙ was.2, was.3, λ none. was.4 (opened.skipped none));
+      before = λ first seen was. (opened.place ∙ was.0, opened.answers ∙ was.1, opened.purpose ∙ was.2, opened.listed ∙ was.3, was.4, λ none. was.5 (opened.skipped none));
       has = λ first was. (
         opened.place ∙ was.0,
         opened.answers ∙ was.1,
-        opened.listed ∙ was.2,
-        opened.kind ∙ was.3,
+        opened.purpose ∙ was.2,
+        opened.listed ∙ was.3,
+        opened.kind ∙ was.4,
         λ none at known.
-            moved at new.loose.which first.loose.which new.directory first.directory _ (opened.listed ∙ was.2) (opened.place ∙ was.0)
-            (has_all (g.R.Directories.answers new.rt) new.directory (map string_bytes new.directories.paths.items) new.skipped.items (map index_path new.packs.items) new.indexes.items
+            moved at new.purpose first.purpose new.loose.which first.loose.which new.directory first.directory _ (opened.purpose ∙ was.2) (opened.listed ∙ was.3) (opened.place ∙ was.0)
+            (has_all (g.R.Directories.answers new.rt) new.purpose new.directory (map string_bytes new.directories.paths.items) new.skipped.items (map index_path new.packs.items) new.indexes.items
             new.loose new.loose_before.items new.are_opened new.are_loose (both_nil new.skipped_before.items new.skipped.items none).1 at (opened.answers ∙ was.1 ∙ known)),
       );
     }

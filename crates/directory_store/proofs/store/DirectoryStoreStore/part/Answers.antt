@@ -14,7 +14,7 @@ pub invariant_of-self-clause-are_opened : goal.invariant_of-self-clause-are_open
 invariant_of-self-clause-are_opened g c =
     let self = c.args.self.now in
     subst (λ (v : Vec LazyIndex Global). ∥ (self.skipped.items ≡ []
-    → IfKnown (λ at. AreOpened at self.directory (map string_bytes self.directories.paths.items) (map index_path self.packs.items) v.items) (g.R.Directories.answers self.rt)) ∥₁)
+    → IfKnown (λ at. AreOpened at self.purpose self.directory (map string_bytes self.directories.paths.items) (map index_path self.packs.items) v.items) (g.R.Directories.answers self.rt)) ∥₁)
     (sym (with_item_same self.indexes c.args.at c.part.new.self (rw c.part.ensures.same c.index_mut.ensures.value))) self.are_opened
 
 pub invariant_of-self-clause-of_kind : goal.invariant_of-self-clause-of_kind
@@ -29,9 +29,9 @@ returns-clause-same g c =
     let OfPaths : Vec LazyIndex Global → Type 0 = λ v. map index_path self.packs.items ≡ map (λ (index : LazyIndex). index.path) v.items in
     let OfKind : Vec LazyIndex Global → Type 0 = λ v. All (λ (index : LazyIndex). index.kind ≡ self.directory.kind) v.items in
     let Opened : Vec LazyIndex Global → Type 0 = λ v. ∥ (self.skipped.items ≡ []
-    → IfKnown (λ at. AreOpened at self.directory (map string_bytes self.directories.paths.items) (map index_path self.packs.items) v.items) (g.R.Directories.answers self.rt)) ∥₁ in
+    → IfKnown (λ at. AreOpened at self.purpose self.directory (map string_bytes self.directories.paths.items) (map index_path self.packs.items) v.items) (g.R.Directories.answers self.rt)) ∥₁ in
     let Listed : Type 0 = ∥ IfKnown (λ at. All (AreLooseOf at self.directory.kind (map string_bytes self.directories.paths.items)) (self.loose ∷ self.loose_before.items)) (g.R.Directories.answers self.rt) ∥₁ in
-    let Reasons : Type 0 = HaveReasons (g.R.Directories.answers self.rt) self.directory (map index_path self.packs.items) self.skipped.items in
+    let Reasons : Type 0 = HaveReasons (g.R.Directories.answers self.rt) self.purpose self.directory (map index_path self.packs.items) self.skipped.items in
     let stays : (v : Vec LazyIndex Global) (paths : OfPaths v) (kind : OfKind v) (loose : self.loose.kind ≡ self.directory.kind) (before : All (λ l. l.kind ≡ self.directory.kind) self.loose_before.items)
     (opened : Opened v) (listed : Listed) (reasons : Reasons)
     → v ≡ self.indexes → record self { indexes = v; of_paths = paths; of_kind = kind; loose_of_kind = loose; before_of_kind = before; are_opened = opened; are_loose = listed; have_reasons = reasons } ≡ self =

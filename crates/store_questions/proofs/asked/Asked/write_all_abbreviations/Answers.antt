@@ -7,14 +7,14 @@ use Rattle.store_questions.proofs.asked.Asked.write_all_abbreviations.Goals as g
 pub abbreviate_all-ran-requires-clause-has : goal.abbreviate_all-ran-requires-clause-has
 abbreviate_all-ran-requires-clause-has g c =
     let store = c.in_ok-store.store in
-    (refl, refl, refl, refl, λ none. c.in_ok-store.ensures.objects (both_nil store.skipped_before.items store.skipped.items none).1)
+    (refl, refl, refl, refl, refl, λ none. c.in_ok-store.ensures.objects (both_nil store.skipped_before.items store.skipped.items none).1)
 
 pub keep-requires-clause-of : goal.keep-requires-clause-of
 keep-requires-clause-of g c =
     let store = c.in_ok-store.store in
     let reopened = c.abbreviate_all-ran.ensures.reopened in
-    let had = reopened.has store (refl, refl, refl, refl, λ none. c.in_ok-store.ensures.objects (both_nil store.skipped_before.items store.skipped.items none).1) in
-    (reopened.kind ∙ c.in_ok-store.ensures.kind, had.0 ∙ c.in_ok-store.ensures.place, had.1 ∙ c.in_ok-store.ensures.answers)
+    let had = reopened.has store (refl, refl, refl, refl, refl, λ none. c.in_ok-store.ensures.objects (both_nil store.skipped_before.items store.skipped.items none).1) in
+    (reopened.kind ∙ c.in_ok-store.ensures.kind, had.0 ∙ c.in_ok-store.ensures.place, had.2 ∙ c.in_ok-store.ensures.purpose ∙ c.purpose_of-purpose.ensures, had.1 ∙ c.in_ok-store.ensures.answers)
 
 pub returns-then-branch-clause-answered : goal.returns-then-branch-clause-answered
 returns-then-branch-clause-answered g c =
@@ -24,7 +24,7 @@ returns-then-branch-clause-answered g c =
       status-whole _ _ _ c.in_ok-kept.kept.0 _ (rw c.skipped_before.ensures at c.in_ok-was_whole.ensures) c.if-branch.true
           (status-is _ c.in_ok-kept.kept.1 c.in_ok-kept.kept.0 _ c.in_ok-kept.ensures.whole c.status_if-status.ensures),
       c.in_ok-store.store,
-      (c.in_ok-store.ensures.kind, c.in_ok-store.ensures.place, c.in_ok-store.ensures.answers),
+      (c.in_ok-store.ensures.kind, c.in_ok-store.ensures.place, c.in_ok-store.ensures.purpose ∙ c.purpose_of-purpose.ensures, c.in_ok-store.ensures.answers),
       c.in_ok-store.ensures.listed,
       has,
     ))
@@ -36,13 +36,13 @@ returns-else-branch-clause-answered g c =
       c.in_ok-kept.kept.0,
       status-failed _ _ _ c.in_ok-kept.kept.0 (rw c.skipped_before.ensures at c.in_ok-was_whole.ensures) c.if-branch.false,
       c.in_ok-store.store,
-      (c.in_ok-store.ensures.kind, c.in_ok-store.ensures.place, c.in_ok-store.ensures.answers),
+      (c.in_ok-store.ensures.kind, c.in_ok-store.ensures.place, c.in_ok-store.ensures.purpose ∙ c.purpose_of-purpose.ensures, c.in_ok-store.ensures.answers),
       c.in_ok-store.ensures.listed,
       has,
     ))
 
 pub returns-then-branch-clause-written : goal.returns-then-branch-clause-written
-returns-then-branch-clause-written g c = λ low at known directories objects alternates counted are.
+returns-then-branch-clause-written g c = λ low at known directories objects alternates right are.
     let asked = c.args.self.now in
     let store = c.in_ok-store.store in
     let of = c.in_ok-store.ensures in
@@ -50,9 +50,9 @@ returns-then-branch-clause-written g c = λ low at known directories objects alt
     let two : 2 ≤ asked.least = omega (arith, asked.enough) in
     let ended = status-whole _ _ _ any _ (rw c.skipped_before.ensures at c.in_ok-was_whole.ensures) c.if-branch.true
     (status-is _ c.in_ok-kept.kept.1 any _ c.in_ok-kept.ensures.whole c.status_if-status.ensures) in
-    all_written at (g.R.Directories.answers asked.rt.now) known asked.directory.now directories objects alternates counted are asked.least two
-    store.directory (g.R.Directories.answers store.rt) store.loose.which _ any _ _ _ _ low ended (of.kind, of.place, of.answers) of.listed
-    (ran-found _ c.abbreviate_all-ran.result any c.in_ok-kept.ensures.ran c.abbreviate_all-ran.ensures.abbreviated) (λ view (_, _, _, kind, has). (kind, has))
+    all_written at (g.R.Directories.answers asked.rt.now) known asked.directory.now directories objects alternates asked.question right are asked.least two
+    store.directory store.purpose (g.R.Directories.answers store.rt) store.loose.which _ any _ _ _ _ low ended (of.kind, of.place, of.purpose ∙ c.purpose_of-purpose.ensures, of.answers) of.listed
+    (ran-found _ c.abbreviate_all-ran.result any c.in_ok-kept.ensures.ran c.abbreviate_all-ran.ensures.abbreviated) (λ view (_, _, _, _, kind, has). (kind, has))
 
 pub returns-else-branch-clause-written : goal.returns-else-branch-clause-written
 returns-else-branch-clause-written g c = λ low. absurd (omega (arith, low))
