@@ -42,7 +42,7 @@
 extern "C" {
 #endif
 
-#define GIX_HASH_VERSION "0.6.0"
+#define GIX_HASH_VERSION "0.7.0"
 
 /* gcc warns of bytes that are fewer than their len says, and of what is not initialised. */
 #if defined(__GNUC__) && __GNUC__ >= 10

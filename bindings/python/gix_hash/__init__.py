@@ -31,7 +31,7 @@ __all__ = [
     "Ambiguous", "Buffer", "Code", "Entry", "Error", "Hasher", "Id", "Kind", "Location", "Missing", "ObjectType", "PackIndex",
     "Prefix", "SkippedWarning", "SortedDigests", "Store", "StoreError",
 ]  # fmt: skip
-__version__ = "0.6.0"
+__version__ = "0.7.0"
 # What has bytes. (Other objects that do, as an array of bytes, are taken too.)
 Buffer = Union[bytes, bytearray, memoryview, mmap.mmap]
 # The name of a kind.

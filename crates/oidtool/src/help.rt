@@ -1,7 +1,7 @@
 //! What `--help` and `--version` print. `tools/runs` compares it with the file `help`.
 
 /// The first line of the help.
-pub const VERSION: &str = "oidtool 0.6.0 of Nunbirdstand
+pub const VERSION: &str = "oidtool 0.7.0 of Nunbirdstand
 ";
 
 /// The lines after it.

@@ -131,9 +131,9 @@ const COMMANDS: [Row; 5] = [
 ];
 
 // What `--version` prints after the program's name, and what begins each help.
-const VERSION: &str = "0.6.0 of Nunbirdstand";
+const VERSION: &str = "0.7.0 of Nunbirdstand";
 
-const ORIGIN: &str = "packtool 0.6.0 of Nunbirdstand";
+const ORIGIN: &str = "packtool 0.7.0 of Nunbirdstand";
 
 // Printed after each help.
 const AFTER: &str =
