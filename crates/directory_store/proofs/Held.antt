@@ -4,8 +4,9 @@ use Rattle.std.specs.Result.{result_ok}
 use Rattle.gix_hash.specs.Words.{first_byte_of}
 use Rattle.gix_hash.specs.declared.Kind.{Kind}
 use Rattle.object_store.specs.Stores.{AreKnown, StoreView, ids_held}
-use Rattle.pack_index.specs.Format.{HasCounts, ids_in}
-use Rattle.pack_index.specs.Lazy.{HaveRightCounts, IndexView, LazyIndex, Tables, seen, tables_in}
+use Rattle.pack_index.specs.Format.{ids_in}
+use Rattle.pack_index.specs.Lazy.{HasRightCounts, HaveRightCounts, IndexView, LazyIndex, Tables, seen, tables_of}
+use Rattle.pack_index.specs.declared.layout.Layout.TheVariants.{Index}
 use Rattle.repositories.specs.Answers.{Answers}
 use Rattle.directory_store.specs.Loose.{HasLoose, bytes_asked}
 use Rattle.directory_store.specs.Multi.{AreFor, AreRead, HasIdsOf, IsMultiOf, Multi, multi_tables}
@@ -22,13 +23,13 @@ use Rattle.directory_store.proofs.Packed.{index_from, index_has}
 module _ (at : Answers) (kind : Kind) where
   -- the fan-out table of the pack index at a path is right
   abbrev IsCounted : List ℕ → Type 0
-  IsCounted path = (bytes : List ℕ) × (at.bytes path ≡ Ok bytes) × HasCounts kind bytes
+  IsCounted path = (bytes : List ℕ) × (at.bytes path ≡ Ok bytes) × HasRightCounts kind Index bytes
 
   abbrev tables_there : List ℕ → Tables
-  tables_there path = tables_in kind (unwrap_or (bytes_at at path) [])
+  tables_there path = tables_of kind Index (unwrap_or (bytes_at at path) [])
 
-  tables_are : (path bytes : List ℕ) → at.bytes path ≡ Ok bytes → tables_there path ≡ tables_in kind bytes
-  tables_are path bytes is = ap (λ answer. tables_in kind (unwrap_or (result_ok answer) [])) is
+  tables_are : (path bytes : List ℕ) → at.bytes path ≡ Ok bytes → tables_there path ≡ tables_of kind Index bytes
+  tables_are path bytes is = ap (λ answer. tables_of kind Index (unwrap_or (result_ok answer) [])) is
 
   -- the tables of pack indexes that are read from such files are known
   tables_known : (paths : List (List ℕ)) → All IsCounted paths → map (tables_at at kind) paths ≡ map Some (map tables_there paths)
@@ -36,7 +37,7 @@ module _ (at : Answers) (kind : Kind) where
   tables_known (path ∷ paths) are =
       let one = All-head IsCounted path paths are in
       let here : tables_at at kind path ≡ Some (tables_there path) =
-      ap (λ answer. option_map (tables_in kind) (result_ok answer)) one.1 ∙ ap Some (sym (tables_are path one.0 one.1)) in
+      ap (λ answer. option_map (tables_of kind Index) (result_ok answer)) one.1 ∙ ap Some (sym (tables_are path one.0 one.1)) in
       let rest = tables_known paths (All-tail IsCounted path paths are) in
       λ i. here i ∷ rest i
 
@@ -104,7 +105,7 @@ module _ (at : Answers) (purpose : Purpose) (which : LooseIds) (view : StoreView
             let path = map_from (tables_there at view.kind) read.left one.0 there in
             let place = place_of path.0 (read.covered.from path.0 path.1) in
             let file = right.counts place.0 path.0 place.1 place.2 in
-            let same : one.0 ≡ tables_in view.kind file.0 = sym path.2 ∙ tables_are at view.kind path.0 file.0 file.1 in
+            let same : one.0 ≡ tables_of view.kind Index file.0 = sym path.2 ∙ tables_are at view.kind path.0 file.0 file.1 in
             (place.0, place.1, inl (path.0, file.0, place.2, file.1, subst (λ (t : Tables). Contains t.ids id) same one.2))
       ]
 

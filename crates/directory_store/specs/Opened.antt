@@ -7,9 +7,10 @@ use Rattle.gix_hash.specs.Words.{first_byte_of}
 use Rattle.gix_hash.specs.declared.Kind.{Kind}
 use Rattle.id_lookup.specs.Words.{IsIndex}
 use Rattle.object_store.specs.Stores.{AreKnown, StoreView, ids_held}
-use Rattle.pack_index.specs.Format.{HasCounts, ids_in}
-use Rattle.pack_index.specs.Lazy.{LazyIndex}
+use Rattle.pack_index.specs.Format.{ids_in}
+use Rattle.pack_index.specs.Lazy.{HasRightCounts, LazyIndex}
 use Rattle.pack_index.specs.Multi.{IsReadAsMulti}
+use Rattle.pack_index.specs.declared.layout.Layout.TheVariants.{Index}
 use Rattle.repositories.specs.Answers.{Answers, IfKnown}
 use Rattle.repositories.specs.Walks.{with_alternates}
 use Rattle.repositories.specs.declared.finding.ObjectDirectory.{ObjectDirectory}
@@ -34,7 +35,7 @@ pub record HasIndex (at : Answers) (directory path : List ℕ) : Type 0 where
 
 -- the fan-out table of each pack index of these object directories is right
 abbrev pub HaveCounts : Answers → Kind → List (List ℕ) → Type 0
-HaveCounts at kind directories = (directory path : List ℕ) → Contains directories directory → HasIndex at directory path → (bytes : List ℕ) × (at.bytes path ≡ Ok bytes) × HasCounts kind bytes
+HaveCounts at kind directories = (directory path : List ℕ) → Contains directories directory → HasIndex at directory path → (bytes : List ℕ) × (at.bytes path ≡ Ok bytes) × HasRightCounts kind Index bytes
 
 -- the ids of each multi-pack-index of these object directories are those of the packs that it names, if all of these packs are there
 abbrev pub HaveIdsOfPacks : Answers → Kind → List (List ℕ) → Type 0

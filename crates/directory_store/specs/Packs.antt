@@ -12,7 +12,8 @@ use Rattle.std.specs.declared.io.ErrorKind.{ErrorKind}
 use Rattle.std.specs.declared.io.ErrorKind.TheVariants.{NotFound}
 use Rattle.gix_hash.specs.declared.Kind.{Kind}
 use Rattle.object_store.specs.declared.error.Error.TheVariants as look_up_errors
-use Rattle.pack_index.specs.Lazy.{IsOpenFault, LazyIndex, Tables, seen, tables_in}
+use Rattle.pack_index.specs.Lazy.{IsOpenFault, LazyIndex, Tables, seen, tables_of}
+use Rattle.pack_index.specs.declared.layout.Layout.TheVariants as layouts
 use Rattle.pack_index.specs.declared.lazy_error.LazyError.{LazyError}
 use Rattle.repositories.specs.Answers.{Answers}
 use Rattle.repositories.specs.declared.directories.Found.{Found}
@@ -91,7 +92,7 @@ bytes_at at path = result_ok (at.bytes path)
 
 -- the tables of the pack index in a file, as a read of it answered; or none, if it failed
 abbrev pub tables_at : Answers → Kind → List ℕ → Option Tables
-tables_at at kind path = option_map (tables_in kind) (bytes_at at path)
+tables_at at kind path = option_map (tables_of kind layouts.Index) (bytes_at at path)
 
 -- the tables of pack indexes that are open, as a look-up sees them
 abbrev pub tables_seen : List LazyIndex → List (Option Tables)

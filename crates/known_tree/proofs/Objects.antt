@@ -12,7 +12,9 @@ use Rattle.gix_hash.specs.declared.Kind.TheVariants.{Sha1}
 use Rattle.gix_hash.proofs.SpellingLaws.{spelling-injective}
 use Rattle.id_lookup.specs.Words.{IsIndexOf}
 use Rattle.id_lookup.proofs.Filters.{contains_kept}
-use Rattle.pack_index.specs.Format.{HasCounts, ids_in}
+use Rattle.pack_index.specs.Format.{ids_in}
+use Rattle.pack_index.specs.Lazy.{HasRightCounts}
+use Rattle.pack_index.specs.declared.layout.Layout.TheVariants.{Index}
 use Rattle.repositories.specs.Answers.{Answers}
 use Rattle.repositories.specs.Walks.{visit_below, with_alternates}
 use Rattle.directory_store.specs.Loose.{HasLoose, bytes_asked}
@@ -71,7 +73,7 @@ module _ (index : List ℕ) where
       sym (take-append-drop 2 digits) ∙ (λ i. front i ++ back i)
 
   -- the fan-out table of its pack index is right
-  counts : HasCounts Sha1 index → HaveCounts at Sha1 (codes "o" ∷ [])
+  counts : HasRightCounts Sha1 Index index → HaveCounts at Sha1 (codes "o" ∷ [])
   counts counted directory path has file =
       (index, ap at.bytes (index_path path (subst (λ d. HasIndex at d path) (only_one _ _ has) file)), counted)
 
@@ -83,7 +85,7 @@ module _ (index : List ℕ) where
       false≢true (ap is_ok (subst (λ packs. at.bytes (path_join packs (codes "multi-pack-index")) ≡ Ok multi.bytes) same is))
 
   -- what is read of it is right
-  pub right : HasCounts Sha1 index → (purpose : Purpose) → AreRight at purpose Sha1 (codes "o" ∷ [])
+  pub right : HasRightCounts Sha1 Index index → (purpose : Purpose) → AreRight at purpose Sha1 (codes "o" ∷ [])
   right counted purpose = record { counts = counts counted; ids = λ _ multi place is read named. absurd (no_multi multi place is) }
 
   -- its objects are those of the pack index, and the loose one

@@ -3,7 +3,9 @@
 ghost use Rattle.std.specs.Prelude.{◌≡◌, ◌≤◌, ◌++◌, ◌∷◌, [], ℕ, IfOk, List, false, max};
 ghost use Rattle.id_lookup.specs.Words.{IsIndexOf};
 ghost use Rattle.known_tree.specs.Trees.{loose_digits};
-ghost use Rattle.pack_index.specs.Format.{HasCounts, ids_in};
+ghost use Rattle.pack_index.specs.Format.{ids_in};
+ghost use Rattle.pack_index.specs.Lazy.{HasRightCounts};
+ghost use Rattle.pack_index.specs.declared.layout.Layout.TheVariants.{Index};
 ghost use Rattle.store_questions.specs.Written.{HasWritten};
 ghost use Rattle.streams.specs.Devices.{plain_failed, plain_inner};
 
@@ -25,7 +27,7 @@ pub fn answer_in_tree<'a, I: io::Read + Drop, W: io::Write + Drop>(
 ) -> Result<u8, Failure<'a>>
     requires { plain_failed out.old ≡ false }
     ensures { IfOk result (λ status. status ≤ 1 → (objects : List (List ℕ))
-        → HasCounts Kind.Sha1 tree.now.index.now → IsIndexOf Kind.Sha1
+        → HasRightCounts Kind.Sha1 Index tree.now.index.now → IsIndexOf Kind.Sha1
         (ids_in Kind.Sha1 tree.now.index.now ++ loose_digits ∷ []) objects
         → HasWritten request.now.question (max request.now.least 4) Kind.Sha1 objects
         (I.remaining input) request.now.ask

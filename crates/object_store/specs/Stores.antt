@@ -10,7 +10,8 @@ use Rattle.std.specs.declared.io.ErrorKind.{ErrorKind}
 use Rattle.std.specs.declared.io.ErrorKind.TheVariants.{NotFound}
 use Rattle.id_lookup.specs.Words.{IsIndexOf, Kind, KindDigits, ObjectId, first_byte_of, id_digits, id_kind, matches}
 use Rattle.pack_index.specs.Format.{IsPackIndex}
-use Rattle.pack_index.specs.Lazy.{BucketIds, HasBucket, HaveRightCounts, IsBucketFault, IsPartOf, IndexView, Tables, counted_with, position_of, tables_in}
+use Rattle.pack_index.specs.Lazy.{BucketIds, HasBucket, HaveRightCounts, IsBucketFault, IsPartOf, IndexView, Tables, counted_with, position_of, tables_of}
+use Rattle.pack_index.specs.declared.layout.Layout.TheVariants as layouts
 use Rattle.pack_index.specs.Lazy as lazy
 use Rattle.pack_index.specs.declared.lazy_error.LazyError.{LazyError}
 use Rattle.pack_index.specs.declared.lazy_error.LazyError.TheVariants as faults
@@ -60,7 +61,7 @@ pub record Holds (view : StoreView) (whole : List (List ℕ)) : Type 0 where
 
 -- the tables are those of a sound pack index
 abbrev pub AreOfIndex : Kind → Tables → Type 0
-AreOfIndex kind tables = (bytes : List ℕ) × (tables ≡ tables_in kind bytes) × IsPackIndex kind bytes
+AreOfIndex kind tables = (bytes : List ℕ) × (tables ≡ tables_of kind layouts.Index bytes) × IsPackIndex kind bytes
 
 -- the id is one of the ids, and the abbreviation is its shortest prefix of at least `fewest` digits with which no other one begins
 pub record IsAbbreviationIn (fewest : ℕ) (ids : List (List ℕ)) (id short : List ℕ) : Type 0 where

@@ -6,7 +6,8 @@ use Rattle.id_lookup.proofs.FilterCounted.{filter_counted}
 use Rattle.id_lookup.proofs.FirstByteCounts.{count_by-below_0, count_by-up_to, up_to_step}
 use Rattle.id_lookup.proofs.PartsInOrder.{below-next, part-run}
 use Rattle.pack_index.specs.Format.{IsPackIndex, crc_table_start, digests_in, ids_in}
-use Rattle.pack_index.specs.Lazy.{HasBucket, HaveRightCounts, HaveFirstByte, IsBucketFault, IsRunFault, IsReadOrMemory, Tables, bucket_start, counted_with, fan_out, tables_in}
+use Rattle.pack_index.specs.Lazy.{HasBucket, HaveRightCounts, HaveFirstByte, IsBucketFault, IsRunFault, IsReadOrMemory, Tables, bucket_start, counted_with, fan_out, tables_of}
+use Rattle.pack_index.specs.declared.layout.Layout.TheVariants.{Index}
 use Rattle.pack_index.specs.declared.lazy_error.LazyError.{LazyError}
 use Rattle.pack_index.specs.declared.lazy_error.LazyError.TheVariants.{Read, Memory, WrongCount}
 use Rattle.pack_index.proofs.Counted.{as_many, digest_digits, length-digests_in}
@@ -127,9 +128,9 @@ module _ (kind : Kind) (bytes : List ℕ) (byte : ℕ) (index : IsPackIndex kind
       by (suc b) low = index.ids.counts b (omega arith) ∙ sym (below-next b (ids_in kind bytes))
 
   -- those that are counted with the byte have it
-  have_byte : HaveFirstByte byte (counted_with (tables_in kind bytes) byte)
+  have_byte : HaveFirstByte byte (counted_with (tables_of kind Index bytes) byte)
   have_byte =
-      let is : part_of byte (ids_in kind bytes) ≡ counted_with (tables_in kind bytes) byte =
+      let is : part_of byte (ids_in kind bytes) ≡ counted_with (tables_of kind Index bytes) byte =
       sym (part-run (ids_in kind bytes) index.ids.sorted (second_digits kind bytes) byte)
       ∙ (λ i. slice_range (ids_in kind bytes) (sym start_counted i) (sym (index.ids.counts byte small) i)) in
       subst (λ (ids : List (List ℕ)). All (λ id. has_first_byte byte id ≡ true) ids) is (filter_passes (has_first_byte byte) (ids_in kind bytes))
@@ -161,7 +162,7 @@ part_fault can_fail tables byte from to _ has low rise high fault = absurd fault
 
 -- a pack index has no fault
 pub no_bucket_fault : (can_fail : Bool) (kind : Kind) (bytes : List ℕ) (byte : ℕ) (e : LazyError) → IsPackIndex kind bytes
-    → IsBucketFault can_fail (tables_in kind bytes) byte e → IsReadOrMemory can_fail e
+    → IsBucketFault can_fail (tables_of kind Index bytes) byte e → IsReadOrMemory can_fail e
 no_bucket_fault can_fail kind bytes byte (Read e) index fault = fault
 no_bucket_fault can_fail kind bytes byte (Memory e) index fault = tt
 no_bucket_fault can_fail kind bytes byte (WrongCount b) index fault = fault.4 (have_byte kind bytes byte index fault.1)

@@ -5,8 +5,8 @@ use Rattle.std.specs.Int.{from_be_bytes, w32}
 use Rattle.std.proofs.lemmas.List.{get_or-append-add}
 use Rattle.id_lookup.specs.Words.{Kind, byte_len_of}
 use Rattle.pack_index.specs.Format.{Each, IsFirstNot, digest_at, word_at}
-use Rattle.pack_index.specs.Lazy.{bucket_start, fan_out}
-use Rattle.pack_index.specs.Multi.{HasChunks, HasFanOut, IsChunk, IsReadAsMulti, chunk_count, chunk_start, counts_letters, ids_letters, names_letters, up_to_in}
+use Rattle.pack_index.specs.Lazy.{bucket_start, fan_out, up_to_at}
+use Rattle.pack_index.specs.Multi.{HasChunks, HasFanOut, IsChunk, IsReadAsMulti, chunk_count, chunk_start}
 use Rattle.pack_index.specs.declared.layout.Layout.{Layout}
 use Rattle.pack_index.specs.declared.layout.Layout.TheVariants.{Index, Multi}
 use Rattle.pack_index.specs.declared.multi.Chunks.{Chunks}
@@ -84,7 +84,7 @@ abbrev pub with_zeros : List ℕ → List ℕ
 with_zeros found = 0 ∷ 0 ∷ 0 ∷ 0 ∷ 0 ∷ 0 ∷ 0 ∷ 0 ∷ (found ++ [])
 
 pub entry_is : (bytes found : List ℕ) (chunks : Chunks) → IsReadAt bytes chunks.counts.start found → length found ≡ 1024
-    → Each (λ byte. fan_out (with_zeros found) byte ≡ up_to_in bytes chunks byte) 256
+    → Each (λ byte. fan_out (with_zeros found) byte ≡ up_to_at (Multi chunks.counts.start chunks.ids.start) bytes byte) 256
 entry_is bytes found chunks read long = λ byte low.
     ap (λ (rest : List ℕ). fan_out (0 ∷ 0 ∷ 0 ∷ 0 ∷ 0 ∷ 0 ∷ 0 ∷ 0 ∷ rest) byte) (append-nil found)
     ∙ word_behind (0 ∷ 0 ∷ 0 ∷ 0 ∷ 0 ∷ 0 ∷ 0 ∷ 0 ∷ []) found (4 * byte) ∙ word_within bytes chunks.counts.start found read (4 * byte) (omega (arith, low, long))
@@ -123,17 +123,18 @@ module _ (kind : Kind) (bytes : List ℕ) (chunks : Chunks) (has : HasChunks kin
   same : read.chunks ≡ chunks
   same =
       let limit = digest_at kind bytes in
-      let n = one_chunk bytes limit names_letters _ _ _ _ read.has.names has.names in
-      let c = one_chunk bytes limit counts_letters _ _ _ _ read.has.counts has.counts in
-      let d = one_chunk bytes limit ids_letters _ _ _ _ read.has.ids has.ids in
+      let n = one_chunk bytes limit 1347305805 _ _ _ _ read.has.names has.names in
+      let c = one_chunk bytes limit 1330201670 _ _ _ _ read.has.counts has.counts in
+      let d = one_chunk bytes limit 1330201676 _ _ _ _ read.has.ids has.ids in
       (λ i. record { names = record { start = n.0 i; end = n.1 i }; counts = record { start = c.0 i; end = c.1 i }; ids = record { start = d.0 i; end = d.1 i } })
 
   pub length-names : length names ≡ chunks.names.end - chunks.names.start
   length-names = ap length read.named ∙ length-range bytes read.chunks.names.start read.chunks.names.end (omega (arith, read.has.names.inside))
       ∙ (λ i. (same i).names.end - (same i).names.start)
 
-  pub has_fan_out : HasFanOut kind chunks (up_to_in bytes chunks)
-  has_fan_out = subst (λ (found : Chunks). HasFanOut kind found (up_to_in bytes found)) same read.fan_out
+  pub has_fan_out : HasFanOut kind chunks (up_to_at (Multi chunks.counts.start chunks.ids.start) bytes)
+  has_fan_out = subst (λ (found : Chunks). HasFanOut kind found (up_to_at (Multi found.counts.start found.ids.start) bytes)) same
+      (subst (λ (l : Layout). HasFanOut kind read.chunks (up_to_at l bytes)) read.laid_out read.fan_out)
 
 abbrev IsMulti : Layout → Type 0
 IsMulti Index = ⊥

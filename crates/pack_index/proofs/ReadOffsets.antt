@@ -3,6 +3,7 @@ use Rattle.gix_hash.proofs.Std.{◌≡◌, ℕ, ◌+◌, ◌-◌, ◌*◌, ◌^�
 use Rattle.id_lookup.specs.Words.{Kind, byte_len_of}
 use Rattle.pack_index.specs.Format.{HasOffset, HasTables, ids_start, long_entry, long_table_start, long_word, num_objects, offset_in, offset_table_start, offset_word, tables_end, word_at}
 use Rattle.pack_index.specs.Lazy.{offset_at}
+use Rattle.pack_index.specs.declared.layout.Layout.TheVariants.{Index}
 use Rattle.pack_index.proofs.Heads.{word_within}
 use Rattle.streams.specs.Streams.{IsReadAt}
 
@@ -26,7 +27,7 @@ module _ (kind : Kind) (bytes head : List ℕ) (count : num_objects head ≡ num
   word_inside at from tables low begins = omega (arith, low, begins, tables.fits, offsets_start, count)
 
 module _ (kind : Kind) (bytes : List ℕ) (at word : ℕ) (is : word ≡ offset_word kind bytes at) where
-  pub short_offset : word < long_word → offset_at kind bytes at ≡ Some word
+  pub short_offset : word < long_word → offset_at kind Index bytes at ≡ Some word
   short_offset low =
       let less : offset_word kind bytes at < long_word = omega (arith, is, low) in
       rw (lt-leb long_word (offset_word kind bytes at) less, lt-ltb (offset_word kind bytes at) long_word less) (ap Some (sym is))
@@ -38,11 +39,11 @@ module _ (kind : Kind) (bytes : List ℕ) (at word : ℕ) (is : word ≡ offset_
     long_is : long_word ≤ offset_word kind bytes at
     long_is = omega (arith, is, high)
 
-    pub no_long : end < start + 8 → offset_at kind bytes at ≡ None
+    pub no_long : end < start + 8 → offset_at kind Index bytes at ≡ None
     no_long outside = rw (le-leb long_word (offset_word kind bytes at) long_is, lt-ltb (tables_end kind bytes) (long_entry kind bytes at + 8) (omega (arith, start_is, ends, outside))) refl
 
     pub long_offset : start + 8 ≤ end → (offset : ℕ) (long : List ℕ) → IsReadAt bytes start long → length long ≡ 8 → offset ≡ 2 ^ 32 * word_at long 0 + word_at long 4
-        → offset_at kind bytes at ≡ Some offset
+        → offset_at kind Index bytes at ≡ Some offset
     long_offset inside offset long there eight made =
         let here : start + 0 ≡ long_entry kind bytes at = omega (arith, start_is) in
         let next : start + 4 ≡ long_entry kind bytes at + 4 = omega (arith, start_is) in
@@ -55,7 +56,7 @@ module _ (kind : Kind) (bytes : List ℕ) (at word : ℕ) (is : word ≡ offset_
         ) (ap Some (sym (made ∙ (λ i. 2 ^ 32 * upper i + lower i))))
 
 -- an object whose offset is in a table has it
-pub has_offset : (kind : Kind) (bytes : List ℕ) (at : ℕ) → HasOffset kind bytes at → offset_at kind bytes at ≡ Some (offset_in kind bytes at)
+pub has_offset : (kind : Kind) (bytes : List ℕ) (at : ℕ) → HasOffset kind bytes at → offset_at kind Index bytes at ≡ Some (offset_in kind bytes at)
 has_offset kind bytes at has = elim (cases_lt (offset_word kind bytes at) long_word) [
   | inl low ↦ rw (lt-leb long_word (offset_word kind bytes at) low) refl
   | inr high ↦ rw (le-leb long_word (offset_word kind bytes at) high, le-ltb (tables_end kind bytes) (long_entry kind bytes at + 8) (has high)) refl

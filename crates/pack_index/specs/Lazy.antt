@@ -24,14 +24,6 @@ pub record Tables : Type 0 where
 abbrev pub fan_out : List ℕ → ℕ → ℕ
 fan_out bytes byte = word_at bytes (8 + 4 * byte)
 
--- the offset of an object, if a table has it
-abbrev pub offset_at : Kind → List ℕ → ℕ → Option ℕ
-offset_at kind bytes k = if is_long kind bytes k && nat_lt (tables_end kind bytes) (long_entry kind bytes k + 8) then None else Some (offset_in kind bytes k)
-
--- what the tables of some bytes say
-abbrev pub tables_in : Kind → List ℕ → Tables
-tables_in kind bytes = record { ids = ids_in kind bytes; up_to = fan_out bytes; offset = offset_at kind bytes }
-
 -- where a table of ids ends
 abbrev pub end_of : IdTable → ℕ
 end_of table = table.start + byte_len_of table.kind * table.count
@@ -45,19 +37,33 @@ abbrev pub first_id : Layout → ℕ
 first_id Index = ids_start
 first_id (Multi counts ids) = ids
 
--- what the tables of some bytes say that are a pack index, or a multi-pack-index: in this no offset is in a table
+-- the ids in some bytes that are a pack index, or a multi-pack-index
+abbrev pub ids_at : Kind → Layout → List ℕ → List (List ℕ)
+ids_at kind Index bytes = ids_in kind bytes
+ids_at kind (Multi counts ids) bytes = ids_of (record { kind = kind; start = ids; count = word_at bytes (counts + 1020) }) bytes
+
+-- how many of them have at most a first byte, by the fan-out table
+abbrev pub up_to_at : Layout → List ℕ → ℕ → ℕ
+up_to_at Index bytes byte = fan_out bytes byte
+up_to_at (Multi counts ids) bytes byte = word_at bytes (counts + 4 * byte)
+
+-- the fan-out table is right: each entry is the number of ids with at most its first byte
+abbrev pub HasRightCounts : Kind → Layout → List ℕ → Type 0
+HasRightCounts kind layout bytes = Each (λ byte. up_to_at layout bytes byte ≡ count_by (is_up_to byte) (ids_at kind layout bytes)) 256
+
+-- the offset of the object at a position, if a table has it: of a multi-pack-index none is read
+abbrev pub offset_at : Kind → Layout → List ℕ → ℕ → Option ℕ
+offset_at kind Index bytes k = if is_long kind bytes k && nat_lt (tables_end kind bytes) (long_entry kind bytes k + 8) then None else Some (offset_in kind bytes k)
+offset_at kind (Multi counts ids) bytes k = None
+
+-- what the tables of these bytes say
 abbrev pub tables_of : Kind → Layout → List ℕ → Tables
-tables_of kind Index bytes = tables_in kind bytes
-tables_of kind (Multi counts ids) bytes = record {
-  ids = ids_of (record { kind = kind; start = ids; count = word_at bytes (counts + 1020) }) bytes;
-  up_to = λ byte. word_at bytes (counts + 4 * byte);
-  offset = λ at. None;
-}
+tables_of kind layout bytes = record { ids = ids_at kind layout bytes; up_to = up_to_at layout bytes; offset = offset_at kind layout bytes }
 
 -- a fan-out table that was read, after 8 other bytes, is that of the tables in some bytes; the ids that it counts are in them; and the tables of a pack index fill
 -- them up to the digests
 pub record HasLayout (kind : Kind) (layout : Layout) (head : List ℕ) (end : ℕ) (bytes : List ℕ) : Type 0 where
-  pub counts : Each (λ byte. fan_out head byte ≡ (tables_of kind layout bytes).up_to byte) 256
+  pub counts : Each (λ byte. fan_out head byte ≡ up_to_at layout bytes byte) 256
   pub inside : first_id layout + byte_len_of kind * num_objects head ≤ length bytes
   pub fills : layout ≡ Index → HasTables kind bytes
   pub ends : layout ≡ Index → end ≡ tables_end kind bytes

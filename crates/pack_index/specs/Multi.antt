@@ -4,26 +4,10 @@
 use Rattle.std.specs.Prelude.{◌≡◌, ◌≢◌, ℕ, ◌+◌, ◌*◌, ◌^◌, ◌<◌, ◌≤◌, List, length, slice_index, slice_range}
 use Rattle.id_lookup.specs.Words.{Kind, Sha1, Sha256, byte_len_of}
 use Rattle.pack_index.specs.Format.{Each, counts_len, digest_at, word_at}
-use Rattle.pack_index.specs.Lazy.{Rises}
+use Rattle.pack_index.specs.Lazy.{Rises, up_to_at}
 use Rattle.pack_index.specs.declared.layout.Layout.{Layout}
 use Rattle.pack_index.specs.declared.layout.Layout.TheVariants.{Multi}
 use Rattle.pack_index.specs.declared.multi.Chunks.{Chunks}
-
--- the letters MIDX, as a number
-abbrev pub multi_letters : ℕ
-multi_letters = 1296647256
-
--- the letters PNAM, of the chunk of the packs' names
-abbrev pub names_letters : ℕ
-names_letters = 1347305805
-
--- the letters OIDF, of the chunk of the fan-out table
-abbrev pub counts_letters : ℕ
-counts_letters = 1330201670
-
--- the letters OIDL, of the chunk of the ids
-abbrev pub ids_letters : ℕ
-ids_letters = 1330201676
 
 -- the version of the digests of a kind
 abbrev pub digest_version : Kind → ℕ
@@ -42,9 +26,9 @@ chunk_letters bytes k = word_at bytes (12 + 12 * k)
 abbrev pub chunk_start : List ℕ → ℕ → ℕ
 chunk_start bytes k = 2 ^ 32 * word_at bytes (16 + 12 * k) + word_at bytes (20 + 12 * k)
 
--- the bytes begin as a multi-pack-index of version 1 and the kind that builds on no other, and have its table of chunks
+-- the bytes begin as a multi-pack-index of version 1 and the kind that builds on no other, with the letters MIDX, and have its table of chunks
 pub record BeginsMulti (kind : Kind) (bytes : List ℕ) : Type 0 where
-  pub letters : word_at bytes 0 ≡ multi_letters
+  pub letters : word_at bytes 0 ≡ 1296647256
   pub version : slice_index bytes 4 ≡ 1
   pub digests : slice_index bytes 5 ≡ digest_version kind
   pub no_base : slice_index bytes 7 ≡ 0
@@ -61,16 +45,13 @@ pub record IsChunk (bytes : List ℕ) (limit letters start end : ℕ) : Type 0 w
   pub in_order : start ≤ end
   pub inside : end ≤ limit
 
--- the first bytes are those of a multi-pack-index that has the three chunks at these positions, which end by a limit
+-- the first bytes are those of a multi-pack-index that has the three chunks at these positions, which end by a limit: that of the names of packs has the letters
+-- PNAM, that of the fan-out table OIDF, and that of the ids OIDL
 pub record HasChunks (kind : Kind) (bytes : List ℕ) (limit : ℕ) (chunks : Chunks) : Type 0 where
   pub head : BeginsMulti kind bytes
-  pub names : IsChunk bytes limit names_letters chunks.names.start chunks.names.end
-  pub counts : IsChunk bytes limit counts_letters chunks.counts.start chunks.counts.end
-  pub ids : IsChunk bytes limit ids_letters chunks.ids.start chunks.ids.end
-
--- the entry for a byte in the chunk of the fan-out table
-abbrev pub up_to_in : List ℕ → Chunks → ℕ → ℕ
-up_to_in bytes chunks byte = word_at bytes (chunks.counts.start + 4 * byte)
+  pub names : IsChunk bytes limit 1347305805 chunks.names.start chunks.names.end
+  pub counts : IsChunk bytes limit 1330201670 chunks.counts.start chunks.counts.end
+  pub ids : IsChunk bytes limit 1330201676 chunks.ids.start chunks.ids.end
 
 -- the chunk of the fan-out table has its length, its entries do not fall, and the chunk of the ids has the length of as many as the last entry says
 pub record HasFanOut (kind : Kind) (chunks : Chunks) (up_to : ℕ → ℕ) : Type 0 where
@@ -84,5 +65,5 @@ pub record IsReadAsMulti (kind : Kind) (bytes : List ℕ) (layout : Layout) (nam
   pub chunks : Chunks
   pub has : HasChunks kind bytes (digest_at kind bytes) chunks
   pub laid_out : layout ≡ Multi chunks.counts.start chunks.ids.start
-  pub fan_out : HasFanOut kind chunks (up_to_in bytes chunks)
+  pub fan_out : HasFanOut kind chunks (up_to_at layout bytes)
   pub named : names ≡ slice_range bytes chunks.names.start chunks.names.end

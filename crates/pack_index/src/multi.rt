@@ -3,8 +3,9 @@
 ghost use Rattle.std.specs.Prelude.{◌≡◌, ◌↔◌, ◌+◌, ◌*◌, ◌-◌, ◌<◌, ◌≤◌, ℕ, IfErr, IfOk, IfSome, IsTrue, List, MatchOption, OnErr, Some, length, slice_range};
 ghost use Rattle.std.specs.Option.{ForSome};
 ghost use Rattle.pack_index.specs.Format.{Each, digest_at};
-ghost use Rattle.pack_index.specs.Lazy.{IsReadOrMemory, fan_out};
-ghost use Rattle.pack_index.specs.Multi.{BeginsMulti, HasChunks, HasFanOut, IsChunk, chunk_count, up_to_in};
+ghost use Rattle.pack_index.specs.Lazy.{IsReadOrMemory, fan_out, up_to_at};
+ghost use Rattle.pack_index.specs.Multi.{BeginsMulti, HasChunks, HasFanOut, IsChunk, chunk_count};
+ghost use Rattle.pack_index.specs.declared.layout.Layout.TheVariants.{Multi};
 ghost use Rattle.pack_index.specs.declared.multi.Chunks.{Chunks};
 
 use crate::checks::{COUNTS_LEN, first_fall};
@@ -146,8 +147,9 @@ pub(crate) fn fan_out_of<S: ReadAt>(
     ensures right { IfOk result (λ found. IfSome found (λ head.
         HasFanOut kind chunks.now (fan_out head))) }
     ensures known { IfOk result (λ found. ForSome (S.content source.now) (λ bytes.
-        MatchOption found (¬ HasFanOut kind chunks.now (up_to_in bytes chunks.now))
-        (λ head. Each (λ byte. fan_out head byte ≡ up_to_in bytes chunks.now byte) 256))) }
+        let up_to = up_to_at (Multi chunks.now.counts.start chunks.now.ids.start) bytes in
+        MatchOption found (¬ HasFanOut kind chunks.now up_to)
+        (λ head. Each (λ byte. fan_out head byte ≡ up_to byte) 256))) }
     ensures err { OnErr result ((bytes : List ℕ) → S.content source.now ≡ Some bytes
         → chunks.now.counts.end ≤ length bytes → IsTrue (S.can_fail source.now)) }
 {

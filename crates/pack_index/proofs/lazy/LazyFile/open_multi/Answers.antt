@@ -1,7 +1,8 @@
 use Rattle.gix_hash.proofs.Std.{◌∙◌, ◌^◌, ◌<◌, ℕ, List, Option, false, refl, sym, subst, arith, rules, err_from_is_err_and, false≢true, get_or-replicate, IfSome}
 use Rattle.std.proofs.lemmas.Option.{MatchOption-at_none, MatchOption-at_some}
-use Rattle.pack_index.specs.Lazy.{fan_out}
-use Rattle.pack_index.specs.Multi.{HasFanOut, up_to_in}
+use Rattle.pack_index.specs.Lazy.{fan_out, up_to_at}
+use Rattle.pack_index.specs.Multi.{HasFanOut}
+use Rattle.pack_index.specs.declared.layout.Layout.TheVariants.{Multi}
 use Rattle.pack_index.proofs.ChunkTables.{has_fan_out, length-names, not_index, same_fan_out}
 use Rattle.pack_index.proofs.lazy.LazyFile.open_multi.Goals as goal
 
@@ -63,7 +64,7 @@ returns-clause-read g c = λ bytes is.
       chunks = chunks;
       has = MatchOption-at_some _ _ _ c.in-Some.is (c.in_ok-chunks.ensures.chunks bytes is);
       laid_out = refl;
-      fan_out = same_fan_out kind chunks (fan_out c.in-Some-2.head) (up_to_in bytes chunks) (MatchOption-at_some _ _ _ c.in-Some-2.is (c.in_ok-head.ensures.known bytes is)) right;
+      fan_out = same_fan_out kind chunks (fan_out c.in-Some-2.head) (up_to_at (Multi chunks.counts.start chunks.ids.start) bytes) (MatchOption-at_some _ _ _ c.in-Some-2.is (c.in_ok-head.ensures.known bytes is)) right;
       named = c.in_ok-names.ensures.bytes bytes is;
     }
 

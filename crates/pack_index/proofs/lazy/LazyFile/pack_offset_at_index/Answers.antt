@@ -23,7 +23,7 @@ long_starts g c bytes is =
     (omega (arith, starts, c.from-2.ensures), has.ends index ∙ ap (λ (k : Kind). tables_end k bytes) kind)
 
 -- the offset that the tables have is that of a pack index
-offset_is : (kind : Kind) (layout : Layout) (bytes : List ℕ) (at : ℕ) → layout ≡ Index → (tables_of kind layout bytes).offset at ≡ offset_at kind bytes at
+offset_is : (kind : Kind) (layout : Layout) (bytes : List ℕ) (at : ℕ) → layout ≡ Index → (tables_of kind layout bytes).offset at ≡ offset_at kind Index bytes at
 offset_is kind layout bytes at is = ap (λ (l : Layout). (tables_of kind l bytes).offset at) is
 
 no_offset : (kind : Kind) (layout : Layout) (bytes : List ℕ) (at : ℕ) → layout ≢ Index → (tables_of kind layout bytes).offset at ≡ None
