@@ -10,7 +10,7 @@ use Rattle.repositories.specs.Lookups.{file_number_at, if_there, is_directory, r
 use Rattle.repositories.specs.declared.files.FileNumber.{FileNumber}
 use Rattle.repositories.specs.declared.look.Look.{Look}
 use Rattle.repositories.specs.declared.look.Seen.{Seen}
-use Rattle.repositories.specs.declared.look.Seen.TheVariants.{Directory, State, Unusable}
+use Rattle.repositories.specs.declared.look.Seen.TheVariants.{Directory, DirectoryIn, State, Unusable}
 use Rattle.repositories.specs.declared.object_directories.ObjectDirectories.{ObjectDirectories}
 use Rattle.repositories.specs.declared.state.FileState.{FileState}
 use Rattle.repositories.specs.declared.walk.Walk.{Walk as AWalk}
@@ -59,10 +59,11 @@ IsStateOf path state at = elim (state_at path at) [
   | None ↦ ⊥
 ]
 
--- a path leads to what was seen there: to the directory of this number, to what is in this state, or to no directory, or to nothing
+-- a path leads to what was seen there: to the directory of this number, to a directory in this state, to what is in this state, or to no directory, or to nothing
 abbrev pub IsSeen : Answers → Look → Type 0
 IsSeen at look = let path = string_bytes look.path in elim look.seen [
   | Directory number ↦ (is_directory path at ≡ Some true) × (file_number_at path at ≡ Some number)
+  | DirectoryIn state ↦ (is_directory path at ≡ Some true) × (state_at path at ≡ Some (Some state))
   | State state ↦ state_at path at ≡ Some state
   | Unusable ↦ result_ok (real_directory path at) ≡ None
 ]

@@ -14,6 +14,7 @@ ghost use Rattle.repositories.specs.Views.{directory_of};
 use crate::config::kind_in_config;
 use crate::directories::{Directories, Found};
 use crate::error::{Error, TextFault};
+use crate::state::FileState;
 use gix_hash::Kind;
 use std::alloc::AllocError;
 use std::fs::{self, Metadata};
@@ -165,8 +166,8 @@ pub(crate) struct RealDirectory {
     pub(crate) path: String,
     // Its number, if its absolute path is not UTF-8.
     pub(crate) number: Option<FileNumber>,
-    // The number of what the path led to before its links were followed.
-    pub(crate) seen: FileNumber,
+    // The state of what the path led to before its links were followed.
+    pub(crate) seen: FileState,
 }
 
 // The number of a file system, and that of a directory in it.
@@ -185,7 +186,7 @@ pub(crate) fn real_directory<R: Directories>(rt: &R, path: &str) -> io::Result<R
     if !found.is_directory {
         return Err(ErrorKind::NotADirectory.into());
     }
-    let seen = found.state.number();
+    let seen = found.state;
     match rt.real_path(path) {
         Ok(path) => Ok(RealDirectory {
             path,
@@ -194,7 +195,7 @@ pub(crate) fn real_directory<R: Directories>(rt: &R, path: &str) -> io::Result<R
         }),
         Err(error) if error.kind() == ErrorKind::InvalidFilename => Ok(RealDirectory {
             path: String::from_str(rt.alloc(), path)?,
-            number: Some(seen),
+            number: Some(seen.number()),
             seen,
         }),
         Err(error) => Err(error),

@@ -21,6 +21,8 @@ pub(crate) struct Look {
 pub(crate) enum Seen {
     // A directory, by its number, since its times change with each directory that is made in it.
     Directory(FileNumber),
+    // A directory in a state, since something is missing in it.
+    DirectoryIn(FileState),
     // A list of alternates, the directory above what is missing, or nothing.
     State(Option<FileState>),
     // What is there and no directory, or cannot be looked at.
@@ -35,6 +37,10 @@ impl Look {
         match self.seen {
             Seen::Directory(number) => rt.look(&self.path).is_ok_and(|found| found.is_directory
                 && found.state.number() == number),
+            Seen::DirectoryIn(state) => {
+                rt.look(&self.path)
+                    .is_ok_and(|found| found.is_directory && found.state == state)
+            }
             Seen::State(state) => {
                 FileState::if_there(rt, &self.path).is_ok_and(|now| now == state)
             }
@@ -46,21 +52,60 @@ impl Look {
     }
 }
 
-// The first directory above a path that is there, and its state. There is none if a look fails, or
-// if the directory `seen` comes first.
+// The first directory above a missing path that is there.
+#[derive(Clone, Copy)]
+pub(crate) struct Above<'a> {
+    pub(crate) path: &'a str,
+    pub(crate) state: FileState,
+    // The path of what is missing in it.
+    pub(crate) missing: &'a str,
+}
+
+// The paths of a directory above what is missing, and of what is missing in it. Both are empty if
+// there is none.
+#[derive(Drop)]
+pub(crate) struct AbovePaths {
+    pub(crate) path: String,
+    pub(crate) missing: String,
+}
+
+impl AbovePaths {
+    // Whether a path leads into what is missing.
+    fn is_missing(&self, path: &str) -> bool {
+        let below = path.strip_prefix(self.missing.as_str());
+        !self.missing.is_empty() && below.is_some_and(|below| below.starts_with('/'))
+    }
+}
+
+// The first directory above a missing path that is there. There is none if a look fails, or if the
+// last one comes first. The state of a directory may be known.
 pub(crate) fn first_above<'a, R: Directories>(
     rt: &R,
     path: &'a str,
-    seen: &str,
-) -> Option<(&'a str, FileState)> {
+    last: &AbovePaths,
+    known: Option<(&str, FileState)>,
+) -> Option<Above<'a>> {
+    if last.is_missing(path) {
+        return None;
+    }
+    let mut missing = path;
     for above in Path::new(path).ancestors().skip(1) {
         let above = or_here(above.as_str());
-        if above == seen {
+        if above == last.path.as_str() {
             return None;
         }
-        if let Some(state) = FileState::if_there(rt, above).ok()? {
-            return Some((above, state));
+        let state = match known {
+            Some((directory, state)) if above == directory => Some(state),
+            _ => FileState::if_there(rt, above).ok()?,
+        };
+        if let Some(state) = state {
+            return Some(Above {
+                path: above,
+                state,
+                missing,
+            });
         }
+        missing = above;
     }
     None
 }

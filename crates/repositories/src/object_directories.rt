@@ -1,6 +1,6 @@
 //! Finds an object directory and its alternates.
 
-ghost use Rattle.std.specs.Prelude.{◌≡◌, ◌≢◌, ◌++◌, ◌∷◌, [], All, IfErr, IfOk, IsTrue, OnOk, Some, codes, map, string_bytes, true};
+ghost use Rattle.std.specs.Prelude.{◌≡◌, ◌≢◌, ◌++◌, ◌∷◌, [], All, IfErr, IfOk, IsTrue, OnOk, Some, codes, map, None, string_bytes, true};
 ghost use Rattle.std.specs.IoError.{error_kind};
 ghost use Rattle.std.specs.Path.{path_join};
 ghost use Rattle.std.specs.declared.io.ErrorKind.{ErrorKind};
@@ -15,10 +15,10 @@ use crate::files::{
     RealDirectory, existing_directory, is_missing, join, push_path, read_if_there, real_directory,
 };
 use crate::finding::{ALTERNATES, ObjectDirectory};
-use crate::look::{Look, Seen, first_above};
+use crate::look::{Above, AbovePaths, Look, Seen, first_above};
 use crate::state::FileState;
 use crate::walk::Walk;
-use std::alloc::AllocError;
+use std::alloc::{AllocError, Global};
 use std::collections::BTreeSet;
 use std::io;
 
@@ -85,17 +85,7 @@ pub fn with_alternates<R: Directories>(
         ≡ Some (map (λ look. string_bytes look.path) found.looks.items)) (R.answers rt.now)) }
 {
     let real = existing_directory(rt, &objects.path)?;
-    let mut walk = Walk {
-        found: ObjectDirectories {
-            paths: Vec::new(rt.alloc()),
-            skipped: Vec::new(rt.alloc()),
-            looks: Vec::new(rt.alloc()),
-            looks_above: Vec::new(rt.alloc()),
-        },
-        paths: BTreeSet::new(rt.alloc()),
-        numbers: Vec::new(rt.alloc()),
-        above: String::new(rt.alloc()),
-    };
+    let mut walk = Walk::new(rt.alloc());
     walk.walk_from(rt, real, &objects.alternates)?;
     let mut found = walk.found;
     // Errors have the path as it was given.
@@ -114,6 +104,26 @@ fn put_first(paths: &mut Vec<String>, path: String)
 }
 
 impl Walk {
+    // A walk that begins.
+    fn new(alloc: Global) -> Walk
+        ensures { walk_of result ≡ record { paths = []; numbers = []; skipped = 0; looked = [] } }
+    {
+        Walk {
+            found: ObjectDirectories {
+                paths: Vec::new(alloc),
+                skipped: Vec::new(alloc),
+                looks: Vec::new(alloc),
+                looks_above: Vec::new(alloc),
+            },
+            paths: BTreeSet::new(alloc),
+            numbers: Vec::new(alloc),
+            above: AbovePaths {
+                path: String::new(alloc),
+                missing: String::new(alloc),
+            },
+        }
+    }
+
     // Adds an object directory, the alternates of the environment, and those of its list.
     fn walk_from<R: Directories>(
         &mut self,
@@ -125,9 +135,10 @@ impl Walk {
             (map string_bytes given.now) (walk_of self.old)) (R.answers rt.now) }
     {
         let path = real.path.clone()?;
+        let seen = real.seen;
         self.push(real)?;
         self.visit_all(rt, given, LEVELS)?;
-        let alternates = self.list_at(rt, &path)?;
+        let alternates = self.list_at(rt, &path, seen)?;
         self.visit_all(rt, &alternates, LEVELS)?;
         Ok(())
     }
@@ -207,7 +218,7 @@ impl Walk {
                 return Ok(Vec::new(rt.alloc()));
             }
         };
-        self.note(rt, path, Seen::Directory(real.seen))?;
+        self.note(rt, path, Seen::Directory(real.seen.number()))?;
         if self.has(&real) {
             return Ok(Vec::new(rt.alloc()));
         }
@@ -215,7 +226,7 @@ impl Walk {
             self.skip(Error::text(rt.alloc(), path, TextFault::TooDeep))?;
             return Ok(Vec::new(rt.alloc()));
         }
-        let alternates = self.list_at(rt, &real.path)?;
+        let alternates = self.list_at(rt, &real.path, real.seen)?;
         self.push(real)?;
         Ok(alternates)
     }
@@ -230,28 +241,55 @@ impl Walk {
         Ok(())
     }
 
-    // Notes the state of what a path leads to. If that is nothing, the state of the directory above
-    // is noted, too, unless it was the last time: what comes and goes again leaves another one.
-    fn note_state<R: Directories>(
-        &mut self,
-        rt: &R,
-        path: &str,
-        state: Option<FileState>,
-    ) -> Result<(), AllocError>
+    // Notes that a path leads to nothing. The state of the directory above is noted, too, unless it
+    // was the last time: what comes and goes again leaves another one.
+    fn note_missing<R: Directories>(&mut self, rt: &R, path: &str) -> Result<(), AllocError>
         ensures looked { OnOk result (walk_of self.new ≡ look_at path.now (walk_of self.old)) }
         ensures noted { OnOk result (noted self.new
-            ≡ noted self.old ++ (path.now, Seen.State state) ∷ []) }
+            ≡ noted self.old ++ (path.now, Seen.State None) ∷ []) }
     {
-        self.note(rt, path, Seen::State(state))?;
-        if state.is_none()
-            && let Some((above, state)) = first_above(rt, path, &self.above)
-        {
-            let path = String::from_str(rt.alloc(), above)?;
-            let seen = Seen::State(Some(state));
-            self.found.looks_above.push(Look { path, seen })?;
-            self.above = String::from_str(rt.alloc(), above)?;
+        self.note(rt, path, Seen::State(None))?;
+        if let Some(above) = first_above(rt, path, &self.above, None) {
+            self.note_above(rt, above)?;
         }
         Ok(())
+    }
+
+    // Notes the state of a directory above what is missing.
+    fn note_above(&mut self, rt: &impl AllocGlobal, above: Above<'_>) -> Result<(), AllocError>
+        ensures walk { OnOk result (walk_of self.new ≡ walk_of self.old) }
+        ensures noted { OnOk result (noted self.new ≡ noted self.old) }
+    {
+        let path = String::from_str(rt.alloc(), above.path)?;
+        let seen = Seen::State(Some(above.state));
+        self.found.looks_above.push(Look { path, seen })?;
+        self.above = AbovePaths {
+            path: String::from_str(rt.alloc(), above.path)?,
+            missing: String::from_str(rt.alloc(), above.missing)?,
+        };
+        Ok(())
+    }
+
+    // Notes that the list of alternates of a directory is missing, and the state of the directory
+    // above, which is known of the directory itself. If that was looked at last, its state is noted
+    // there, so that one look sees both.
+    fn note_no_list<R: Directories>(
+        &mut self,
+        rt: &R,
+        list: &str,
+        directory: &str,
+        state: FileState,
+    ) -> Result<(), AllocError>
+        ensures { OnOk result (walk_of self.new ≡ look_at list.now (walk_of self.old)) }
+    {
+        if let Some(above) = first_above(rt, list, &self.above, Some((directory, state))) {
+            if above.path != directory
+                || !note_whole_state(&mut self.found.looks, directory, state)
+            {
+                self.note_above(rt, above)?;
+            }
+        }
+        self.note(rt, list, Seen::State(None))
     }
 
     // Skips an alternate that is not a directory or cannot be read. The error is that memory runs
@@ -274,20 +312,25 @@ impl Walk {
             return self.skip(Error::text(rt.alloc(), ALTERNATES, TextFault::PathWithNul));
         }
         match error.kind() {
-            io::ErrorKind::NotFound => self.note_state(rt, path, None)?,
+            io::ErrorKind::NotFound => self.note_missing(rt, path)?,
             _ => self.note(rt, path, Seen::Unusable)?,
         }
         self.skip(unusable(rt, path, error))
     }
 
-    // Reads the paths in the list of alternates of a directory. Those that are not UTF-8 are
-    // skipped.
-    fn list_at<R: Directories>(&mut self, rt: &R, directory: &str) -> Result<Vec<String>, Error>
+    // Reads the paths in the list of alternates of a directory, whose state is known. Those that
+    // are not UTF-8 are skipped.
+    fn list_at<R: Directories>(
+        &mut self,
+        rt: &R,
+        directory: &str,
+        state: FileState,
+    ) -> Result<Vec<String>, Error>
         ensures { Finds (λ paths. (walk_of self.new, map string_bytes paths.items)) result
             (list_at directory.now (walk_of self.old)) (R.answers rt.now) }
     {
         let list = list_path(rt, directory)?;
-        let text = self.text_at(rt, &list)?;
+        let text = self.text_at(rt, &list, directory, state)?;
         let named = alternate_paths(rt.alloc(), &text, b'\n')?;
         self.read_paths(rt, directory, &named)
     }
@@ -334,23 +377,44 @@ impl Walk {
         self.skip(Error::text(rt.alloc(), &list, TextFault::PathNotText))
     }
 
-    // Reads the text of a list of alternates, which is empty if there is no list.
-    fn text_at<R: Directories>(&mut self, rt: &R, list: &str) -> Result<Vec<u8>, Error>
+    // Reads the text of the list of alternates of a directory, which is empty if there is no list.
+    // The state of the directory is known.
+    fn text_at<R: Directories>(
+        &mut self,
+        rt: &R,
+        list: &str,
+        directory: &str,
+        state: FileState,
+    ) -> Result<Vec<u8>, Error>
         ensures looked { OnOk result (walk_of self.new ≡ look_at list.now (walk_of self.old)) }
         ensures text { Finds (λ text. text.items) result (text_at list.now) (R.answers rt.now) }
     {
-        let state = match FileState::if_there(rt, list) {
-            Ok(state) => state,
+        match FileState::if_there(rt, list) {
+            Ok(None) => {
+                self.note_no_list(rt, list, directory, state)?;
+                return Ok(Vec::new(rt.alloc()));
+            }
+            Ok(found) => self.note(rt, list, Seen::State(found))?,
             Err(error) => return Err(Error::file(rt.alloc(), list, error)),
-        };
-        self.note_state(rt, list, state)?;
-        if state.is_none() {
-            return Ok(Vec::new(rt.alloc()));
         }
         match read_if_there(rt, list)? {
             Some(text) => Ok(text),
             None => Ok(Vec::new(rt.alloc())),
         }
+    }
+}
+
+// Whether the last look was at this directory. If so, its state is noted there.
+fn note_whole_state(looks: &mut Vec<Look>, directory: &str, state: FileState) -> bool
+    ensures { map (λ look. string_bytes look.path) looks.new.items
+        ≡ map (λ look. string_bytes look.path) looks.old.items }
+{
+    match looks.last_mut() {
+        Some(look) if look.path.as_str() == directory => {
+            look.seen = Seen::DirectoryIn(state);
+            true
+        }
+        _ => false,
     }
 }
 

@@ -5,6 +5,7 @@ ghost use Rattle.std.specs.BTreeSet.{contains_text};
 ghost use Rattle.std.specs.List.{list_any};
 
 use crate::files::FileNumber;
+use crate::look::AbovePaths;
 use crate::object_directories::ObjectDirectories;
 use std::collections::BTreeSet;
 
@@ -16,8 +17,8 @@ pub(crate) struct Walk {
     pub(crate) paths: BTreeSet<String>,
     // The numbers of the directories whose absolute paths are not UTF-8.
     pub(crate) numbers: Vec<FileNumber>,
-    // The directory above what is missing whose state was noted last, or an empty path.
-    pub(crate) above: String,
+    // The directory above what is missing whose state was noted last.
+    pub(crate) above: AbovePaths,
     ghost same_paths: { (path : List ℕ) → contains_text paths path
         ≡ list_any (λ other. bytes_eq other path) (map string_bytes found.paths.items) },
 }
