@@ -1,10 +1,12 @@
 -- A walk over directories and their alternates, path by path.
 use Rattle.gix_hash.proofs.Std.{◌≡◌, ◌↔◌, ◌∙◌, ◌+◌, ◌-◌, ◌<◌, ◌∷◌, ◌++◌, ◌==◌, [], Bool, IsTrue, List, None, Option, Some, add-one, ap, ap₂, append-nil, arith, drop, drop-cons, false, get_or, if◌then◌else◌, length, map, refl, suc, sym, true, zero, ℕ}
 use Rattle.std.specs.Path.{path_join}
+use Rattle.std.specs.Result.{result_ok}
 use Rattle.std.specs.Str.{IsUtf8, is_utf8}
 use Rattle.std.proofs.lemmas.Str.{IsUtf8-from_is_utf8, is_utf8-from_IsUtf8}
 use Rattle.repositories.specs.Answers.{◌>>=◌, Answers}
-use Rattle.repositories.specs.Walks.{Walk, each, list_at, visit, visit_below, skip, walk_from, with_directory, with_path, with_paths}
+use Rattle.repositories.specs.Lookups.{real_directory}
+use Rattle.repositories.specs.Walks.{Walk, each, list_at, visit, visit_below, skip, walk_from, walk_over, with_directory, with_path, with_paths}
 use Rattle.repositories.specs.declared.files.FileNumber.{FileNumber}
 
 -- a test for UTF-8 is its test by definition
@@ -70,3 +72,11 @@ pub walked : (real : List ℕ × Option FileNumber) (given paths : List (List �
     → each (visit_below 6) paths listed at ≡ found → walk_from real given walk at ≡ found
 walked real given paths walk mid listed found at first list rest =
     ap (λ found. found >>= λ walk. list_at real.0 walk at >>= λ found. each (visit_below 6) found.1 found.0 at) first ∙ ap (λ found. found >>= λ found. each (visit_below 6) found.1 found.0 at) list ∙ rest
+
+-- a walk from the directory that a path leads to failed
+pub over_fails : (objects text : List ℕ) (given paths : List (List ℕ)) (walk : Walk) (real : List ℕ × Option FileNumber) (at : Answers) → text ≡ objects → paths ≡ given → walk ≡ record { paths = []; numbers = []; skipped = 0; looked = [] }
+    → result_ok (real_directory text at) ≡ Some real → walk_from real paths walk at ≡ None → walk_over objects given at ≡ None
+over_fails objects text given paths walk real at same_text same_paths empty is fails =
+    let walk_at = λ (real : List ℕ × Option FileNumber). walk_from real given (record { paths = []; numbers = []; skipped = 0; looked = [] }) at in
+    ap (λ text. result_ok (real_directory text at) >>= walk_at) (sym same_text) ∙ ap (λ found. found >>= walk_at) is
+    ∙ ap₂ (λ paths walk. walk_from real paths walk at) (sym same_paths) (sym empty) ∙ fails

@@ -6,7 +6,7 @@ ghost use Rattle.std.specs.Path.{path_join};
 ghost use Rattle.std.specs.declared.io.ErrorKind.{ErrorKind};
 ghost use Rattle.repositories.specs.Answers.{Finds, IfKnown, is_memory};
 ghost use Rattle.repositories.specs.Views.{directory_of};
-ghost use Rattle.repositories.specs.Walks.{IsSeen, directories_of, each, has, list_at, look_at, looked_at, noted, skip, skip_unusable, text_at, visit, visit_below, walk_from, walk_of, with_alternates, with_first, with_directory, with_path, with_paths};
+ghost use Rattle.repositories.specs.Walks.{IsSeen, directories_of, each, has, list_at, look_at, looked_at, noted, skip, skip_unusable, text_at, visit, visit_below, walk_from, walk_of, walk_over, with_alternates, with_first, with_directory, with_path, with_paths};
 
 use crate::alternates::alternate_paths;
 use crate::directories::Directories;
@@ -36,6 +36,10 @@ pub struct ObjectDirectories {
     /// nested too deep, or its path in a list is not UTF-8. The error has the path of the alternate
     /// or of the list, or the name of the variable if the path begins with a NUL there.
     pub skipped: Vec<Error>,
+    /// The states of the directories, each before its list was read. There is none where
+    /// [`are_unchanged`](ObjectDirectories::are_unchanged) compares less, since it has a directory
+    /// `info`, or is no alternate.
+    pub states: Vec<Option<FileState>>,
     // What was seen where a list of alternates may be, before it was read, and at the alternates.
     looks: Vec<Look>,
     // The states of directories above what is missing.
@@ -84,13 +88,23 @@ pub fn with_alternates<R: Directories>(
         (map string_bytes objects.now.alternates.items) at
         ≡ Some (map (λ look. string_bytes look.path) found.looks.items)) (R.answers rt.now)) }
 {
-    let real = existing_directory(rt, &objects.path)?;
-    let mut walk = Walk::new(rt.alloc());
-    walk.walk_from(rt, real, &objects.alternates)?;
-    let mut found = walk.found;
+    let mut found = walk_over(rt, objects)?.found;
     // Errors have the path as it was given.
     put_first(&mut found.paths, objects.path.clone()?);
     Ok(found)
+}
+
+// Walks over an object directory and its alternates.
+fn walk_over<R: Directories>(rt: &R, objects: &ObjectDirectory) -> Result<Walk, Error>
+    ensures { Finds walk_of result (walk_over (string_bytes objects.now.path)
+        (map string_bytes objects.now.alternates.items)) (R.answers rt.now) }
+{
+    let real = existing_directory(rt, &objects.path)?;
+    let mut walk = Walk::new(rt.alloc());
+    match walk.walk_from(rt, real, &objects.alternates) {
+        Ok(()) => Ok(walk),
+        Err(error) => Err(error),
+    }
 }
 
 // Puts a path in the place of the first one, if there is one.
@@ -112,6 +126,7 @@ impl Walk {
             found: ObjectDirectories {
                 paths: Vec::new(alloc),
                 skipped: Vec::new(alloc),
+                states: Vec::new(alloc),
                 looks: Vec::new(alloc),
                 looks_above: Vec::new(alloc),
             },
@@ -136,20 +151,21 @@ impl Walk {
     {
         let path = real.path.clone()?;
         let seen = real.seen;
-        self.push(real)?;
+        self.push(real, None)?;
         self.visit_all(rt, given, LEVELS)?;
         let alternates = self.list_at(rt, &path, seen)?;
         self.visit_all(rt, &alternates, LEVELS)?;
         Ok(())
     }
 
-    // Adds a directory.
+    // Adds a directory, with its state if that is compared later.
     #[tactic(auto, using(crate::proofs::Sets::contains_more))]
-    fn push(&mut self, real: RealDirectory) -> Result<(), AllocError>
+    fn push(&mut self, real: RealDirectory, state: Option<FileState>) -> Result<(), AllocError>
         ensures { OnOk result (walk_of self.new
             ≡ with_directory (directory_of real) (walk_of self.old)) }
     {
         let path = real.path.clone()?;
+        self.found.states.push(state)?;
         self.found.paths.reserve(1)?;
         self.paths.insert(path)?;
         self.found.paths.push_reserved(real.path);
@@ -227,7 +243,8 @@ impl Walk {
             return Ok(Vec::new(rt.alloc()));
         }
         let alternates = self.list_at(rt, &real.path, real.seen)?;
-        self.push(real)?;
+        let state = whole_state(&self.found.looks, &real.path);
+        self.push(real, state)?;
         Ok(alternates)
     }
 
@@ -415,6 +432,17 @@ fn note_whole_state(looks: &mut Vec<Look>, directory: &str, state: FileState) ->
             true
         }
         _ => false,
+    }
+}
+
+// The state of a directory that was noted, if the look before the last one was at it.
+fn whole_state(looks: &[Look], directory: &str) -> Option<FileState> {
+    match looks {
+        [.., look, _] if look.path.as_str() == directory => match look.seen {
+            Seen::DirectoryIn(state) => Some(state),
+            _ => None,
+        },
+        _ => None,
     }
 }
 

@@ -56,11 +56,33 @@ impl FileState {
         ensures { IfOk result (λ state. IfKnown (IsStateOf (or_here path.now) state)
             (R.answers rt.now)) }
     {
+        FileState::of_known(rt, path, None)
+    }
+
+    /// Reads the state as [`FileState::of`] does, except that the state of the directory that the
+    /// path is in may be known. If the path leads to nothing, this directory is not looked at.
+    ///
+    /// ```
+    /// let objects = FileState::of(rt, ".git/objects")?;
+    /// let packs = FileState::of_known(rt, ".git/objects/pack", Some(objects))?;
+    /// ```
+    pub fn of_known<R: Directories>(
+        rt: &R,
+        path: &str,
+        directory: Option<FileState>,
+    ) -> io::Result<FileState>
+        ensures { IfOk result (λ state. IfKnown (IsStateOf (or_here path.now) state)
+            (R.answers rt.now)) }
+    {
         let path = or_here(path);
-        match FileState::if_there(rt, path)? {
-            Some(state) => Ok(state),
-            None => FileState::of_missing(rt, path),
+        if let Some(state) = FileState::if_there(rt, path)? {
+            return Ok(state);
         }
+        let Some(mut state) = directory else {
+            return FileState::of_missing(rt, path);
+        };
+        state.missing = 1;
+        Ok(state)
     }
 
     // Reads the state of a path that leads to nothing.
