@@ -26,6 +26,39 @@ HEADER, ROW, FAN_OUT = 12, 12, 1024
 DATA, PATIENCE = 64 << 20, 10 * SECONDS
 
 
+def clear(place):
+    """Removes what is in the place of a multi-pack-index."""
+    if place.is_dir() and not place.is_symlink():
+        place.rmdir()
+    else:
+        place.unlink(missing_ok=True)
+
+
+def links(place, kept):
+    """Links that may be in the place of a multi-pack-index, to a file that is one, to nothing and to itself; and where each leads."""
+    rows = {"a link": kept, "a relative link": os.path.relpath(kept, place.parent), "a dangling link": "gone"}
+    return rows | {"a link to itself": place.name}
+
+
+def size_of_tables(whole):
+    """The length of the header of a multi-pack-index and of its table of chunks, which ends with a row for their end."""
+    return HEADER + ROW * (whole[6] + 1)
+
+
+def chunk_starts(whole):
+    """Where each chunk of a multi-pack-index begins, by its letters, and where they end, by four NULs."""
+    rows = [whole[at : at + ROW] for at in range(HEADER, size_of_tables(whole), ROW)]
+    return {row[:4]: int.from_bytes(row[4:], "big") for row in rows}
+
+
+def cuts(whole):
+    """The lengths at which a multi-pack-index is cut: at and beside each of its parts."""
+    top, starts = size_of_tables(whole), [*chunk_starts(whole).values()]
+    sizes = {0, 1, 4, 8, HEADER, HEADER + ROW, top - ROW, top, *starts, starts[1] + FAN_OUT // 2, len(whole) - 1, len(whole) // 2}
+    sizes |= {size + by for size in (HEADER, top, *starts) for by in (-1, 1)}
+    return sorted(size for size in sizes if size < len(whole))
+
+
 class Store:
     """A bare repository of four packs and loose objects, and what packtool prints of it without its multi-pack-index, which is put
     there by each row."""
@@ -49,10 +82,7 @@ class Store:
 
     def clear(self):
         """Removes what is in the place of the multi-pack-index."""
-        if self.place.is_dir() and not self.place.is_symlink():
-            self.place.rmdir()
-        else:
-            self.place.unlink(missing_ok=True)
+        clear(self.place)
 
     def put(self, content):
         """Puts a file with these bytes there."""
@@ -86,11 +116,6 @@ class Store:
         return name, wrong
 
 
-def size_of_tables(whole):
-    """The length of the header and of the table of chunks, which ends with a row for their end."""
-    return HEADER + ROW * (whole[6] + 1)
-
-
 def damaged_bytes(program, room, kind):
     """A multi-pack-index with another byte in its header or in its table of chunks, each in turn: all its bits are changed, and of SHA-1
     also its lowest bit alone."""
@@ -104,11 +129,8 @@ def damaged_bytes(program, room, kind):
 def cut_off(program, room, kind):
     """A multi-pack-index that ends too early, at and beside each of its parts, or too late."""
     store = Store(program, room / kind, kind)
-    whole, top = store.whole, size_of_tables(store.whole)
-    starts = [int.from_bytes(whole[at + 4 : at + ROW], "big") for at in range(HEADER, top, ROW)]
-    sizes = {0, 1, 4, 8, HEADER, HEADER + ROW, top - ROW, top, *starts, starts[1] + FAN_OUT // 2, len(whole) - 1, len(whole) // 2}
-    sizes |= {size + by for size in (HEADER, top, *starts) for by in (-1, 1)}
-    for size in sorted(size for size in sizes if size < len(whole)):
+    whole = store.whole
+    for size in cuts(whole):
         store.put(whole[:size])
         yield store.row(f"the first {size} of {len(whole)} bytes of a multi-pack-index")
     for name, content in ("a byte more", whole + b"\0"), ("its bytes twice", whole * 2), ("zeros", bytes(len(whole))):
@@ -124,8 +146,8 @@ def other_forms(program, room, kind):
     write(room / "kept", store.whole)
     write(room / "locked" / "multi-pack-index", store.whole)
     (room / "locked").chmod(0)
-    links = {"a link": room / "kept", "a relative link": os.path.relpath(room / "kept", store.place.parent), "a dangling link": "gone"}
-    links |= {"a link to itself": "multi-pack-index", "a link without an end": "/dev/zero", "a link that may not be followed": room / "locked" / "multi-pack-index"}
+    targets = links(store.place, room / "kept")
+    targets |= {"a link without an end": "/dev/zero", "a link that may not be followed": room / "locked" / "multi-pack-index"}
     borrowing = room / "borrowing"
     add_repository(borrowing, kind)
     write(borrowing / "objects" / "info" / "alternates", os.fsencode(f"{store.path}/objects\n"))
@@ -135,7 +157,7 @@ def other_forms(program, room, kind):
         for name, content in files.items():
             store.put(content)
             yield store.row(f"a multi-pack-index{where}: {name}")
-        for name, target in links.items():
+        for name, target in targets.items():
             store.clear()
             store.place.symlink_to(target)
             yield store.row(f"a multi-pack-index{where}: {name}", *POWERLESS)

@@ -6,7 +6,8 @@ import os
 import struct
 
 from edges import DIGITS, NO_FILE, TOO_FEW, error_of, verdict_of
-from gitstore import CONFIGS, add_repository, counts_of, digest_of, git, pack_index, sealed, sorted_ids, version_1, write
+from gitstore import add_repository, counts_of, digest_of, git, pack_index, sealed, sorted_ids, version_1, write
+from many_packs import chunk_starts
 from probe import difference, ran
 
 CHUNKS = "FAILED: its header, its table of chunks or a chunk is wrong"
@@ -119,7 +120,7 @@ def changed_bytes(program, room, kind, content):
 def changed_ids(program, packs, kind, content, ids):
     """Fan-out tables, orders and ids that are wrong, and whether git says the same."""
     size, names = DIGITS[kind] // 2, [name.encode() for name in sorted(os.listdir(packs)) if name.endswith(".idx")]
-    starts = {content[12 * at : 12 * at + 4]: int.from_bytes(content[12 * at + 4 : 12 * at + 12], "big") for at in range(1, content[6] + 1)}
+    starts = chunk_starts(content)
     counts, first = starts[b"OIDF"], starts[b"OIDL"]
     same = next(at for at in range(OBJECTS - 1) if ids[at][0] == ids[at + 1][0])
     differ = next(at for at in range(OBJECTS - 1) if ids[at][0] + 1 == ids[at + 1][0])
