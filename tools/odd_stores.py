@@ -1,12 +1,16 @@
 """Odd stores that tools/odd makes at random: repositories, configs, environments, objects directories and alternates, right ones,
 some that nobody would make, and broken ones. Loose objects are empty files and pack indexes are made by hand: of both
-nothing is read but the names."""
+nothing is read but the names. Git makes multi-pack-indexes of these, some of which are changed then."""
 
 import os
 import shutil
 from contextlib import suppress
 
-from gitstore import DIGITS, SHA256, pack_index, version_1
+import probe
+from edges import SPARSE
+from gitstore import DIGITS, SHA256, add_repository, changed, pack_index, version_1
+from many_packs import clear, cuts, links, size_of_tables
+from multi import multi_of
 
 # Of each kind of ids the other one.
 OTHER = {"sha1": "sha256", "sha256": "sha1"}
@@ -40,6 +44,12 @@ NO_OBJECTS = ["tmp_obj_f0K1Cz", "x", ".", "g" * 38, "0" * 37, "0" * 39, "0" * 37
 NO_DIRECTORIES = ["0", "000", "4", "4g", "4B", "AA", "FF", "4b ", "-1", "\u00e9"]
 PACK_FILES = ["x.keep", "x.promisor", "x.rev", "x.bitmap", "x.mtimes", "tmp_idx_x", "tmp_pack_x", "x.idx.lock", "x.IDX", "idx"]
 PACK_FILES += ["multi-pack-index~", "pack-1.idx~"]
+# What becomes of a multi-pack-index that git has written, and of its packs; after the first ones git finds all of their objects by it.
+SOUND = ["kept", "a link", "a relative link", "a pack more"]
+FORMS = ["kept"] * 4 + SOUND + ["a pack more", "a pack less", "a pack less", "a byte changed", "a byte changed", "cut", "of the other kind"]
+FORMS += ["a directory", "a dangling link", "a link to itself", "a pipe", "a sparse file that goes on", "a sparse file of zeros"]
+# Those of which all that packtool reads may be as git wrote it.
+PARTLY = ["a byte changed", "cut", "a sparse file that goes on"]
 
 
 def chance(rng, share):
@@ -114,6 +124,9 @@ class Oddity:
         self.top = room
         # The directories of objects that were made, and the ids that may be in them.
         self.objects, self.ids = [], []
+        # The multi-pack-indexes that git has written, by their directories of objects; whether git is told to read none of them, since it
+        # would miss objects; and whether packtool may open few files.
+        self.multis, self.is_unsound, self.has_few = {}, False, False
         # Whether nothing leads to it from outside, since its path is not UTF-8, as paths of packtool are.
         self.is_alone = False
 
@@ -246,6 +259,8 @@ class Oddity:
         for directory in dict.fromkeys(path.resolve() for path in self.objects if path.is_dir()):
             self.loose(directory, kind)
             self.packs(directory, kind)
+            self.multi(directory, kind)
+        self.has_few = chance(rng, 0.1)
         for at, directory in enumerate(self.objects):
             if directory.is_dir() and not self.is_alone and chance(rng, 0.9 if directory.parent in chain else 0.4):
                 later = [path for path in self.objects[at + 1 :] if path.parent in chain][:1] if chance(rng, 0.8) else []
@@ -314,6 +329,59 @@ class Oddity:
         if chance(rng, 0.03):
             self.write(pack / "lone.pack")
             (pack / "lone.idx").symlink_to("none")
+
+    def multi(self, directory, kind):
+        """Mostly lets git write a multi-pack-index, if a directory has several packs, and then changes it or its packs."""
+        rng, place = self.rng, directory / "pack" / "multi-pack-index"
+        indexes = [path for path in sorted(place.parent.glob("*.idx")) if path.is_file()]
+        packs = [path for path in indexes if path.with_name(f"{path.name[:-4]}.pack").is_file()]
+        if len(packs) < 2 or chance(rng, 0.1):
+            return
+        writer = self.room / "writer"
+        add_repository(writer, kind)
+        env = {"GIT_DIR": str(writer), "GIT_OBJECT_DIRECTORY": str(directory)}
+        probe.ran("git", "-c", "core.fsync=none", "multi-pack-index", "write", cwd=writer, env=env)
+        # (it writes none if it reads none of the pack indexes)
+        if not place.is_file():
+            return
+        whole, form = place.read_bytes(), rng.choice(FORMS)
+        # (of what is changed packtool may read what it needs, and then it reads no pack index that git alone reads. Tables have whole words)
+        if form in PARTLY and any(len(path.read_bytes()) % 4 or path.read_bytes()[:1] == b"\0" for path in packs):
+            form = "kept"
+        self.multis[directory], self.is_unsound = whole, self.is_unsound or form not in SOUND
+        kept = self.room / "kept" / f"{len(self.multis)}"
+        self.write(kept, whole)
+        if form == "a pack more":
+            self.write(place.with_name("more.idx"), self.index(sorted(rng.sample(self.ids, 1)), kind))
+            self.write(place.with_name("more.pack"))
+        elif form == "a pack less":
+            index = rng.choice([path for path in packs if path.name.encode() in whole])
+            for path in rng.choice([[index], [index.with_name(f"{index.name[:-4]}.pack")]]):
+                path.unlink()
+        elif form != "kept":
+            clear(place)
+            self.put(place, form, whole, kept, kind, packs)
+
+    def put(self, place, form, whole, kept, kind, packs):
+        """Puts an odd form of a multi-pack-index of packs, which is kept elsewhere, into its place."""
+        rng = self.rng
+        if form.endswith("link") or form == "a link to itself":
+            place.symlink_to(links(place, kept)[form])
+        elif form == "a directory":
+            place.mkdir()
+        elif form == "a pipe":
+            os.mkfifo(place)
+        elif form == "a byte changed":
+            at = rng.randrange(size_of_tables(whole))
+            place.write_bytes(changed(whole, at, whole[at] ^ rng.choice([1, 128, 255])))
+        elif form == "cut":
+            place.write_bytes(whole[: rng.choice(cuts(whole))])
+        elif form == "of the other kind":
+            ids = sorted(bytes.fromhex(id.ljust(64, "0")[: DIGITS[OTHER[kind]]]) for id in self.ids)
+            place.write_bytes(multi_of(OTHER[kind], ids, [os.fsencode(path.name) for path in packs]))
+        else:
+            place.write_bytes(whole if form.endswith("goes on") else b"")
+            os.truncate(place, SPARSE)
 
     def index(self, ids, kind):
         """A pack index of ids, sometimes a bad one."""
