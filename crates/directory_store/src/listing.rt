@@ -26,13 +26,18 @@ pub(crate) fn list_names<R: Directories>(rt: &R, directory: &str) -> Result<Vec<
     }
 }
 
-// The state of a directory, before it is read or after.
-pub(crate) fn state_of<R: Directories>(rt: &R, directory: &str) -> Result<FileState, Error>
+// The state of a directory, before it is read or after. That of the directory above may be known.
+pub(crate) fn state_of<R: Directories>(
+    rt: &R,
+    directory: &str,
+    above: Option<FileState>,
+) -> Result<FileState, Error>
     ensures err { IfErr result IsUnread }
     ensures state { IfOk result (λ state. IfKnown (IsStateOf (or_here directory.now) state)
         (R.answers rt.now)) }
 {
-    FileState::of(rt, directory).map_err(|error| Error::file(rt.alloc(), directory, error))
+    let state = FileState::of_known(rt, directory, above);
+    state.map_err(|error| Error::file(rt.alloc(), directory, error))
 }
 
 // The state of a directory, or `None` if it is missing.
@@ -50,40 +55,55 @@ pub(crate) fn state_if_there<R: Directories>(
     }
 }
 
-// The states of directories.
-pub(crate) fn states_of<R: Directories>(rt: &R, paths: &[String]) -> Result<Vec<FileState>, Error>
+// The states of directories. Those of the directories above may be known.
+pub(crate) fn states_of<R: Directories>(
+    rt: &R,
+    paths: &[String],
+    above: &[Option<FileState>],
+) -> Result<Vec<FileState>, Error>
     ensures as_many { IfOk result (λ states. vec_len states ≡ length paths.now) }
     ensures states { IfOk result (λ states. IfKnown (AreStatesOf (map string_bytes paths.now)
         states.items) (R.answers rt.now)) }
 {
     let mut states = Vec::new(rt.alloc());
     for path in paths {
-        states.push(state_of(rt, path)?)?;
+        let above = known_at(above, states.len());
+        states.push(state_of(rt, path, above)?)?;
     }
     Ok(states)
+}
+
+// The state at a position, if it is known.
+fn known_at(states: &[Option<FileState>], at: usize) -> Option<FileState> {
+    match states.get(at) {
+        Some(state) => *state,
+        None => None,
+    }
 }
 
 // Fails if a directory is in another state.
 pub(crate) fn expect_state<R: Directories>(
     rt: &R,
     path: &str,
+    above: Option<FileState>,
     state: &FileState,
 ) -> Result<(), Error>
     ensures err { IfErr result (λ error. IsUnread error ⊎ IsChanged path.now error) }
     ensures state { OnOk result (IfKnown (IsStateOf (or_here path.now) state.now)
         (R.answers rt.now)) }
 {
-    if state_of(rt, path)? == *state {
+    if state_of(rt, path, above)? == *state {
         Ok(())
     } else {
         Err(Error::changed(rt.alloc(), path))
     }
 }
 
-// Fails if one of the directories is in another state.
+// Fails if one of the directories is in another state. Those of the directories above may be known.
 pub(crate) fn expect_states<R: Directories>(
     rt: &R,
     paths: &[String],
+    above: &[Option<FileState>],
     states: &[FileState],
 ) -> Result<(), Error>
     requires { length states.now ≡ length paths.now }
@@ -91,7 +111,7 @@ pub(crate) fn expect_states<R: Directories>(
         (R.answers rt.now)) }
 {
     for (at, path) in paths.iter().enumerate() {
-        expect_state(rt, path, &states[at])?;
+        expect_state(rt, path, known_at(above, at), &states[at])?;
     }
     Ok(())
 }

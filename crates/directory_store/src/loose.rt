@@ -73,7 +73,14 @@ impl LooseObjects {
             (R.answers rt.now))) }
     {
         match &self.states {
-            Some(states) => Ok(Places { rt, paths }.states(self.which)? == *states),
+            Some(states) => {
+                let places = Places {
+                    rt,
+                    paths,
+                    must_stay: &[],
+                };
+                Ok(places.states(self.which)? == *states)
+            }
             None => Ok(false),
         }
     }
@@ -148,17 +155,19 @@ impl FanOut {
         }
         let names = list_names(rt, &self.path)?;
         if let Some(state) = &self.state {
-            expect_state(rt, &self.path, state)?;
+            expect_state(rt, &self.path, None, state)?;
         }
         Ok(names)
     }
 }
 
-// Lists the loose objects in object directories. If the time before is given, it is also looked at
-// what these may be compared by later.
+// Lists the loose objects in object directories. In some of them no fan-out directory may come or
+// go meanwhile. If the time before is given, it is also looked at what these may be compared by
+// later.
 pub(crate) fn list_loose<R: Directories>(
     rt: &R,
     paths: &[String],
+    must_stay: &[String],
     kind: Kind,
     which: LooseIds,
     now: Option<SystemTime>,
@@ -170,7 +179,11 @@ pub(crate) fn list_loose<R: Directories>(
     ensures loose { IfOk result (λ loose. IfKnown (λ at. AreLoose at kind which
         (map string_bytes paths.now) loose.directories.items) (R.answers rt.now)) }
 {
-    let places = Places { rt, paths };
+    let places = Places {
+        rt,
+        paths,
+        must_stay,
+    };
     let states = places.settled_states(which, now)?;
     let directories = places.list_directories(kind, which)?;
     let table = table_of(rt.alloc(), &directories, kind)?;
@@ -205,6 +218,8 @@ fn table_of(
 struct Places<'a, R> {
     rt: &'a R,
     paths: &'a [String],
+    // Those in which no fan-out directory may come or go while they are listed.
+    must_stay: &'a [String],
 }
 
 impl<R: Directories> Places<'_, R> {
@@ -231,7 +246,7 @@ impl<R: Directories> Places<'_, R> {
         ensures states { IfOk result (λ states. IfKnown (AreStatesOf
             (fan_outs_in which self.now.paths.now) states.items) (R.answers self.now.rt.now)) }
     {
-        states_of(self.rt, &self.fan_out_paths(which)?)
+        states_of(self.rt, &self.fan_out_paths(which)?, &[])
     }
 
     // The paths of the fan-out directories that are asked for.
@@ -266,9 +281,8 @@ impl<R: Directories> Places<'_, R> {
         Ok(directories)
     }
 
-    // Lists the fan-out directories, one first byte after the other. If there are several object
-    // directories, in none a fan-out directory may come or go meanwhile. Fails if one does, or if
-    // one changes each time that it is listed.
+    // Lists the fan-out directories, one first byte after the other. Fails if one comes or goes
+    // where none may, or if one changes each time that it is listed.
     fn list_parts(&self, which: LooseIds) -> Result<Vec<FanOutNames>, Error>
         ensures as_many { IfOk result (λ parts. All (λ part. vec_len part.names
             ≡ length self.now.paths.now) parts.items) }
@@ -278,18 +292,13 @@ impl<R: Directories> Places<'_, R> {
             self.now.paths.now part.names.items) parts.items) (R.answers self.now.rt.now)) }
     {
         let bytes = bytes_of(self.rt.alloc(), which)?;
-        let several = if self.paths.len() > 1 {
-            self.paths
-        } else {
-            &[]
-        };
-        let before = states_of(self.rt, several)?;
+        let before = states_of(self.rt, self.must_stay, &[])?;
         let mut parts = Vec::new(self.rt.alloc());
         for byte in &bytes {
             let names = self.names_with(*byte)?;
             parts.push(FanOutNames { byte: *byte, names })?;
         }
-        expect_states(self.rt, several, &before)?;
+        expect_states(self.rt, self.must_stay, &[], &before)?;
         Ok(parts)
     }
 

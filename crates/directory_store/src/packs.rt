@@ -47,12 +47,22 @@ pub(crate) const MAX_KEPT_OF_ONE: u64 = 1 << 22;
 pub(crate) struct PackDirectories {
     pub(crate) paths: Vec<String>,
     states: Vec<FileState>,
+    // The states of the object directories, as far as they are compared with the alternates.
+    above: Vec<Option<FileState>>,
+    // The object directories that have them, if there are several. Where one is missing, its state
+    // is that of the object directory.
+    pub(crate) with_packs: Vec<String>,
     ghost as_many: { vec_len states ≡ vec_len paths },
 }
 
 impl PackDirectories {
-    // Those in object directories, as they are now. One may be missing.
-    pub(crate) fn of<R: Directories>(rt: &R, objects: &[String]) -> Result<PackDirectories, Error>
+    // Those in object directories, as they are now. One may be missing. The states of the object
+    // directories may be known, if they are compared with the alternates.
+    pub(crate) fn of<R: Directories>(
+        rt: &R,
+        objects: &[String],
+        above: &[Option<FileState>],
+    ) -> Result<PackDirectories, Error>
         ensures { IfOk result (λ packs. map string_bytes packs.paths.items
             ≡ map (λ path. packs_of (string_bytes path)) objects.now) }
     {
@@ -60,8 +70,14 @@ impl PackDirectories {
         for directory in objects {
             paths.push(join(rt, directory, "pack")?)?;
         }
-        let states = states_of(rt, &paths)?;
-        Ok(PackDirectories { paths, states })
+        let states = states_of(rt, &paths, above)?;
+        let with_packs = with_packs(rt.alloc(), objects, &states)?;
+        Ok(PackDirectories {
+            paths,
+            states,
+            above: above.to_vec(rt.alloc())?,
+            with_packs,
+        })
     }
 
     // The pack indexes in them, with or without packs.
@@ -155,8 +171,23 @@ impl PackDirectories {
         ensures { OnOk result (IfKnown (AreStatesOf (map string_bytes self.now.paths.items)
             self.now.states.items) (R.answers rt.now)) }
     {
-        expect_states(rt, &self.paths, &self.states)
+        expect_states(rt, &self.paths, &self.above, &self.states)
     }
+}
+
+// Those of several object directories whose directories of packs are there, by the states of these.
+fn with_packs(
+    alloc: Global,
+    objects: &[String],
+    states: &[FileState],
+) -> Result<Vec<String>, AllocError> {
+    let mut kept = Vec::new(alloc);
+    for (path, state) in objects.iter().zip(states) {
+        if objects.len() > 1 && !state.is_missing() {
+            kept.push(path.clone()?)?;
+        }
+    }
+    Ok(kept)
 }
 
 // The pack indexes that object directories had as they were listed.

@@ -197,7 +197,7 @@ impl<R: StoreFiles> DirectoryStore<R> {
             → (store.skipped.items ≡ []) × AreSettled now store.pack_directories.states.items) }
     {
         let mut directories = with_alternates(rt, directory)?;
-        let pack_directories = PackDirectories::of(rt, &directories.paths)?;
+        let pack_directories = PackDirectories::of(rt, &directories.paths, &directories.states)?;
         let (listed, loose) = list_store(
             rt,
             &pack_directories,
@@ -357,7 +357,9 @@ impl<R: StoreFiles> DirectoryStore<R> {
             return Ok(listed);
         }
         let kind = self.directory.kind;
-        let listed = list_loose(&self.rt, &self.directories.paths, kind, loose, Some(now))?;
+        let paths = &self.directories.paths;
+        let must_stay = &self.pack_directories.with_packs;
+        let listed = list_loose(&self.rt, paths, must_stay, kind, loose, Some(now))?;
         self.expect_unchanged()?;
         Ok(listed)
     }
@@ -502,7 +504,7 @@ fn list_store<R: Directories>(
         (map string_bytes directories.now) listed.1.directories.items) (R.answers rt.now)) }
 {
     let before = packs.list(rt)?;
-    let loose = list_loose(rt, directories, kind, loose, loose_now)?;
+    let loose = list_loose(rt, directories, &packs.with_packs, kind, loose, loose_now)?;
     Ok((packs.list_again(rt, before, now)?, loose))
 }
 

@@ -41,8 +41,8 @@ invariant_of-result-clause-are_opened g c = ∣ (λ none at known'.
       packs = c.in_ok-listed.listed.paths.items;
       listed = subst (λ ds. ArePacks at ds c.in_ok-listed.listed.paths.items) places (c.in_ok-listed.ensures.packs at known);
       read = subst (λ kind. AreRead at c.args.purpose kind (map packs_of directories) listed paths tables) (sym c.in_ok-copy_of.ensures.kind)
-          (subst (λ places. AreRead at c.args.purpose c.args.directory.now.kind places listed paths tables) (ap (map string_bytes) c.deref-3.ensures.value ∙ places)
-          (subst (λ l. AreRead at c.args.purpose c.args.directory.now.kind (map string_bytes c.deref-3.result.now) (map index_path l) paths tables) c.deref-4.ensures.value
+          (subst (λ places. AreRead at c.args.purpose c.args.directory.now.kind places listed paths tables) (ap (map string_bytes) c.deref-4.ensures.value ∙ places)
+          (subst (λ l. AreRead at c.args.purpose c.args.directory.now.kind (map string_bytes c.deref-4.result.now) (map index_path l) paths tables) c.deref-5.ensures.value
           (c.in_ok-opened.ensures.read undamaged at known)));
     }) ∣₁
 
@@ -54,8 +54,8 @@ invariant_of-result-clause-are_loose g c = ∣ (λ at known'.
     let directories = map string_bytes c.in_ok-directories.directories.paths.items in
     let are : AreLooseOf at kind directories loose =
     subst (λ which. AreLoose at kind which directories loose.directories.items) (sym c.in_ok-listed.ensures.which)
-    (subst (λ ds. AreLoose at kind c.args.loose (map string_bytes ds) loose.directories.items) c.deref-2.ensures.value
-    (subst (λ k. AreLoose at k c.args.loose (map string_bytes c.deref-2.result.now) loose.directories.items) (sym c.in_ok-copy_of.ensures.kind) (c.in_ok-listed.ensures.loose at known))) in
+    (subst (λ ds. AreLoose at kind c.args.loose (map string_bytes ds) loose.directories.items) c.deref-3.ensures.value
+    (subst (λ k. AreLoose at k c.args.loose (map string_bytes c.deref-3.result.now) loose.directories.items) (sym c.in_ok-copy_of.ensures.kind) (c.in_ok-listed.ensures.loose at known))) in
     All-cons (AreLooseOf at kind directories) loose _ are (λ k d low. absurd (omega (arith, low, ap length c.new-3.ensures.items)))) ∣₁
 
 pub invariant_of-result-clause-of_kind : goal.invariant_of-result-clause-of_kind
@@ -88,8 +88,8 @@ module _ (g : Over) (c : In_ok-copy_of g) where
         are_unread = All-append IsUnread (map of_repository alternates) listed.skipped.items (All-map IsUnread of_repository alternates (λ k d low. (get_or alternates k d, refl))) unnamed;
         listed = subst (λ ds. ArePacks at ds listed.paths.items) places (c.in_ok-listed.ensures.packs at known);
         are_damaged = subst (λ kind. AreCoveredOrDamaged at c.args.purpose kind (map packs_of directories) (map index_path listed.paths.items) opened damaged) (sym c.in_ok-copy_of.ensures.kind)
-            (subst (λ ds. AreCoveredOrDamaged at c.args.purpose c.args.directory.now.kind ds (map index_path listed.paths.items) opened damaged) (ap (map string_bytes) c.deref-3.ensures.value ∙ places)
-            (subst (λ paths. AreCoveredOrDamaged at c.args.purpose c.args.directory.now.kind (map string_bytes c.deref-3.result.now) (map index_path paths) opened damaged) c.deref-4.ensures.value
+            (subst (λ ds. AreCoveredOrDamaged at c.args.purpose c.args.directory.now.kind ds (map index_path listed.paths.items) opened damaged) (ap (map string_bytes) c.deref-4.ensures.value ∙ places)
+            (subst (λ paths. AreCoveredOrDamaged at c.args.purpose c.args.directory.now.kind (map string_bytes c.deref-4.result.now) (map index_path paths) opened damaged) c.deref-5.ensures.value
             (c.in_ok-opened.ensures.skipped at known)));
       })
 
