@@ -2,9 +2,9 @@
 
 ghost use Rattle.std.specs.Prelude.{◌≡◌, ◌≢◌, ◌↔◌, ◌<◌, ◌≤◌, [], ◌∷◌, ◌++◌, None, false, true, length, map, option_copied, string_bytes, take, All, IfErr, IfOk, IsErrOf};
 ghost use Rattle.id_lookup.specs.Words.{hex_letter, id_digits, spelling};
-ghost use Rattle.object_store.specs.Several.{AreLocatedOfEach, HaveMoreLocations, IsLocationsFaultOfOne};
+ghost use Rattle.object_store.specs.Several.{HaveMoreLocations, IsLocationsFaultOfOne};
 ghost use Rattle.object_store.specs.Stores.{IsReopened};
-ghost use Rattle.packtool_commands.specs.Stores.{AreListed, HasLocatedEach, HasBegunLocatedEach, IsFaultOf, limit_for, lines_at_after, located_lines, location_end, location_line, prefixes_of};
+ghost use Rattle.packtool_commands.specs.Stores.{AreListed, HasLocatedEach, HasBegunLocatedEach, IsFaultOf, limit_for, lines_at_after, located_lines, location_end, location_line};
 ghost use Rattle.packtool_commands.specs.declared.error.StoreError.{StoreError};
 ghost use Rattle.streams.specs.Streams.{Wrote, lines_of};
 
@@ -80,37 +80,15 @@ pub fn locate_each<S: Reopen + StorePaths, A: Allocator + Copy, W: Sink>(
         (S.pack_path store.new) (S.loose_paths store.new) (S.view store.new)
         (lines_of lines.now.text.now) (W.taken out.old) (W.taken out.new) }
 {
-    let located = locate_lines(alloc, store, lines, limit_for(wanted), most)?;
+    let locating = Locating {
+        limit: limit_for(wanted),
+    };
+    let located = look_up_lines(alloc, store, lines, most, &locating)?;
     let form = ListForm {
         wanted,
         item: LocationsForm { store: &*store },
     };
     Ok(write_answers(lines, &located, &form, out)?)
-}
-
-// The ids that begin with each prefix among some lines, all or the first up to a limit, with their
-// locations.
-fn locate_lines<S: Reopen + StorePaths, A: Allocator + Copy>(
-    alloc: A,
-    store: &mut S,
-    lines: &PrefixLines<'_, A>,
-    limit: Option<usize>,
-    most: usize,
-) -> Result<Vec<Vec<LocatedId<A>, A>, A>, StoreError>
-    requires kind { lines.now.kind ≡ (S.view store.old).kind }
-    requires listed { AreListed (S.view store.old) lines.now.prefixes.items }
-    ensures reopened { IsReopened S.had S.view store.old store.new }
-    ensures located { IfOk result (λ located. AreLocatedOfEach limit (S.view store.new)
-        (S.loose_paths store.new)
-        (prefixes_of (S.view store.new).kind (lines_of lines.now.text.now)) located.items) }
-    ensures refused { IfErr result (IsFaultOf (IsLocationsFaultOfOne limit
-        (S.view store.new) lines.now.prefixes.items)) }
-    ensures several { IsErrOf result StoreError.TooMany → 1 < length lines.now.prefixes.items }
-    ensures more { IsErrOf result StoreError.TooMany → HaveMoreLocations A limit
-        (S.view store.new) (S.loose_paths store.new) most lines.now.prefixes.items }
-    ensures unwritten { IfErr result (λ e. e ≢ StoreError.Output) }
-{
-    look_up_lines(alloc, store, lines, most, &Locating { limit })
 }
 
 // How an id is printed with its locations in a store: a line for each.
