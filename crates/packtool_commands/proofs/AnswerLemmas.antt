@@ -1,5 +1,5 @@
 -- The lines of a text and what is printed for them, one after the other.
-use Rattle.gix_hash.proofs.Std.{◌≡◌, ℕ, ◌<◌, ◌≤◌, Bool, true, false, nat_lt, Option, None, Some, List, [], ◌∷◌, length, refl, sym, ap, subst, ◌∙◌, arith, if◌then◌else◌, All, flat_map, option_map, option_to_list, nat_tests, nil_from_length, All-append, All-cons, All-nil}
+use Rattle.gix_hash.proofs.Std.{◌≡◌, ℕ, ◌≤◌, Bool, true, false, nat_lt, Option, None, Some, List, [], ◌∷◌, length, refl, sym, ap, subst, ◌∙◌, arith, if◌then◌else◌, All, option_map, option_to_list, nat_tests, nil_from_length, All-append, All-cons, All-nil}
 use Rattle.streams.proofs.LineLemmas.{lines_of-nil}
 use Rattle.id_lookup.specs.Words.{Kind, KindDigits, digits_read, hex_len_of, hex_letter, kind_digits}
 use Rattle.object_store.specs.Several.{limited_to}
@@ -16,12 +16,6 @@ use Rattle.packtool_commands.specs.declared.printing.Wanted.TheVariants.{All as 
 -- a text that is empty has no line
 pub lines_at_end : (text : List ℕ) → length text ≡ 0 → lines_of text ≡ []
 lines_at_end text none = ap lines_of (nil_from_length text none) ∙ lines_of-nil
-
--- all that was found after a line, if there is something
-pub found_all : {X : Type 0} (text : Option (List ℕ) → X → List ℕ) (wanted : Wanted) (line : List ℕ) (found : List X) → wanted ≡ AllOfThem → 0 < length found
-    → flat_map (text (Some line)) found ≡ found_text text wanted line found
-found_all text wanted line [] all some = absurd (omega (arith, some))
-found_all text wanted line (x ∷ found) all some = ap (λ a. found_text text a line (x ∷ found)) (sym all)
 
 -- what is printed by the first two is what is printed by all, if only one is asked for
 pub text_of_first : {X : Type 0} (text : Option (List ℕ) → X → List ℕ) (wanted : Wanted) (line : List ℕ) (found : List X)

@@ -197,7 +197,13 @@ impl AnswerForm<Abbreviation> for AbbreviationForm {
         match found {
             Abbreviation::Missing => write_two(line, b" missing\n", out),
             Abbreviation::Ambiguous => write_two(line, b" ambiguous\n", out),
-            Abbreviation::Unique(abbreviated) => write_prefix(&abbreviated.abbreviation, out),
+            Abbreviation::Unique(abbreviated) => {
+                let prefix = &abbreviated.abbreviation;
+                // The contract of this call says how many digits the prefix has at most.
+                let _hex_len = prefix.hex_len();
+                let mut digits = Kind::hex_buf();
+                write_two(prefix.hex_to_buf(&mut digits).as_bytes(), b"\n", out)
+            }
         }
     }
 
@@ -208,16 +214,4 @@ impl AnswerForm<Abbreviation> for AbbreviationForm {
             Abbreviation::Unique(_) => None,
         }
     }
-}
-
-// Writes a prefix in hex and a line feed.
-fn write_prefix<W: Sink>(prefix: &Prefix, out: &mut W) -> Result<(), WriteFailed>
-    requires { W.has_failed out.old ≡ false }
-    ensures { Wrote W.taken W.has_failed out.old out.new result
-        (spelling hex_letter prefix.now.digits ++ 10 ∷ []) }
-{
-    // The contract of this call says how many digits the prefix has at most.
-    let _hex_len = prefix.hex_len();
-    let mut digits = Kind::hex_buf();
-    write_two(prefix.hex_to_buf(&mut digits).as_bytes(), b"\n", out)
 }

@@ -190,7 +190,21 @@ impl<X, A: Allocator, F: ItemForm<X>> AnswerForm<Vec<X, A>> for ListForm<F> {
         found: &Vec<X, A>,
         out: &mut W,
     ) -> Result<(), WriteFailed> {
-        write_found(line, found, self.wanted, &self.item, out)
+        if found.is_empty() {
+            if matches!(self.wanted, Wanted::Bare | Wanted::BareOne) {
+                return Ok(());
+            }
+            return write_two(line, b" missing\n", out);
+        }
+        match self.wanted {
+            Wanted::All => write_each(Some(line), found, &self.item, out),
+            Wanted::Bare => write_each(None, found, &self.item, out),
+            Wanted::One | Wanted::BareOne if found.len() == 1 => {
+                self.item.write_after(None, &found[0], out)
+            }
+            Wanted::One => write_two(line, b" ambiguous\n", out),
+            Wanted::BareOne => Ok(()),
+        }
     }
 
     fn no_answer(&self, found: &Vec<X, A>) -> Option<NoAnswer> {
@@ -201,35 +215,6 @@ impl<X, A: Allocator, F: ItemForm<X>> AnswerForm<Vec<X, A>> for ListForm<F> {
             Wanted::One | Wanted::BareOne if found.len() > 1 => Some(NoAnswer::Ambiguous),
             _ => None,
         }
-    }
-}
-
-// Writes what is printed for a prefix, by the things that were found.
-fn write_found<X, F: ItemForm<X>, W: Sink>(
-    line: &[u8],
-    found: &[X],
-    wanted: Wanted,
-    form: &F,
-    out: &mut W,
-) -> Result<(), WriteFailed>
-    requires { W.has_failed out.old ≡ false }
-    ensures { Wrote W.taken W.has_failed out.old out.new result
-        (found_text (F.text form.now) wanted line.now found.now) }
-{
-    if found.is_empty() {
-        if matches!(wanted, Wanted::Bare | Wanted::BareOne) {
-            return Ok(());
-        }
-        return write_two(line, b" missing\n", out);
-    }
-    match wanted {
-        Wanted::All => write_each(Some(line), found, form, out),
-        Wanted::Bare => write_each(None, found, form, out),
-        Wanted::One | Wanted::BareOne if found.len() == 1 => {
-            form.write_after(None, &found[0], out)
-        }
-        Wanted::One => write_two(line, b" ambiguous\n", out),
-        Wanted::BareOne => Ok(()),
     }
 }
 
