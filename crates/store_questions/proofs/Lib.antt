@@ -1,4 +1,3 @@
-pub mod InputLemmas
 pub mod LineLemmas
 pub mod Lines
 pub mod Parts

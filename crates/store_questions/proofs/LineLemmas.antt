@@ -1,5 +1,7 @@
 -- Lines that a reader gives, and those that are still to come.
-use Rattle.gix_hash.proofs.Std.{◌≡◌, ℕ, false, ◌+◌, ◌-◌, ◌<◌, ◌≤◌, List, [], ◌∷◌, ◌++◌, Option, None, Some, cond, length, take, drop, set, get_or, refl, arith, append_assoc, add-one, length-append, length-drop, option_map, Consumes, IsAtEnd, Keeps, prepend_known, paste, take-append-add, take-suc-set, append-nil, drop-take, drop_all, length-take, length-take-le, take-append-drop, take-append-le, take-take, take_more, take-paste, sum_by-cons}
+use Rattle.gix_hash.proofs.Std.{◌≡◌, ℕ, false, ◌+◌, ◌-◌, ◌<◌, ◌≤◌, List, [], ◌∷◌, ◌++◌, Option, None, Some, cond, length, take, drop, set, get_or, refl, ap, sym, ◌∙◌, arith, append_assoc, add-one, length-append, length-drop, option_map, Consumes, IsAtEnd, Keeps, prepend_known, paste, take-append-add, take-suc-set, append-nil, drop-take, drop_all, length-take, length-take-le, take-append-drop, take-append-le, take-take, take_more, take-paste, sum_by-cons}
+use Rattle.std.specs.Prelude.{IfSome}
+use Rattle.std.proofs.KnownBytes.{Consumes-all, Consumes-trans}
 use Rattle.store_questions.specs.WholeLines.{AreWhole, HasNoLineFeed, is_line_feed, last_after, made_whole}
 
 pub last-append : (before : ℕ) (xs ys : List ℕ) → last_after before (xs ++ ys) ≡ last_after (last_after before xs) ys
@@ -77,3 +79,11 @@ held-fed items n below = rw add-one (take-suc-set items n 10 below)
 
 pub none-after : (n : ℕ) (items : List ℕ) → drop n (take n items) ≡ []
 none-after n items = drop_all n (take n items) (omega (arith, length-take n items))
+
+-- all lines were read
+pub all-read : (known middle left : Option (List ℕ)) (text chunk : List ℕ) → Consumes (option_map made_whole known) middle text
+    → Consumes middle left chunk → chunk ≡ [] → IsAtEnd left → IfSome known (λ all. text ≡ made_whole all)
+all-read None middle left text chunk before after none end = tt
+all-read (Some all) middle left text chunk before after none end =
+    Consumes-all (Some (made_whole all)) left (text ++ chunk) [] text (Consumes-trans (Some (made_whole all)) middle left text chunk before after) end
+    (sym (ap (λ more. text ++ more) none ∙ append-nil text))

@@ -1,13 +1,15 @@
 -- What was written for a text in parts, one after the other.
-use Rattle.gix_hash.proofs.Std.{ℕ, ◌≤◌, AllZip, Appends, List, [], ◌∷◌, ◌++◌, Option, arith, flat_map, refl, subst, suc, sym, zero}
-use Rattle.std.proofs.KnownBytes.{Appends-kept, Appends-nil, Appends-trans}
+use Rattle.gix_hash.proofs.Std.{ℕ, ◌≡◌, ◌≤◌, ◌∙◌, AllZip, Appends, Keeps, List, [], ◌∷◌, ◌++◌, Option, ap, append-nil, append_assoc, arith, flat_map, max, refl, subst, suc, sym, zero}
+use Rattle.std.proofs.KnownBytes.{Appends-kept, Appends-nil, Appends-trans, Keeps-refl, Keeps-trans}
 use Rattle.std.proofs.lemmas.Grind.{flat_map-append}
 use Rattle.packtool_commands.specs.Stores.{HasAnsweredEach}
-use Rattle.packtool_commands.specs.declared.printing.NoAnswer.{NoAnswer}
+use Rattle.packtool_commands.specs.declared.printing.Wanted.{Wanted}
+use Rattle.repositories.specs.Answers.{Answers}
 use Rattle.streams.specs.Streams.{lines_of}
 use Rattle.streams.proofs.LineLemmas.{lines_of-nil}
-use Rattle.store_questions.specs.Answers.{HasAnsweredParts, IsChunkAnswered}
+use Rattle.store_questions.specs.Answers.{HasAnsweredParts, IsAnswered}
 use Rattle.store_questions.specs.WholeLines.{AreWhole}
+use Rattle.store_questions.specs.declared.request.Query.{Query}
 use Rattle.store_questions.proofs.Lines.{lines-append, whole-append}
 
 zip-append : {X Y : Type 0} (P : X → Y → Type 0) (xs : List X) (ys : List Y) (xs' : List X) (ys' : List Y) → AllZip P xs ys → AllZip P xs' ys' → AllZip P (xs ++ xs') (ys ++ ys')
@@ -23,8 +25,9 @@ module _ (IsText : List ℕ → List ℕ → Type 0) where
   abbrev one : List ℕ → List ℕ
   one text = text
 
-  none-written : (old : Option (List ℕ)) → HasTexts [] old old
-  none-written old = record { texts = []; each = subst (λ (lines : List (List ℕ)). AllZip IsText lines []) (sym lines_of-nil) tt; written = Appends-nil old }
+  none-written : (old new : Option (List ℕ)) → Keeps old new → HasTexts [] old new
+  none-written old new kept =
+      record { texts = []; each = subst (λ (lines : List (List ℕ)). AllZip IsText lines []) (sym lines_of-nil) tt; written = Appends-kept old old new [] (Appends-nil old) kept }
 
   both-written : (xs ys : List ℕ) (old middle new : Option (List ℕ)) → AreWhole xs → HasTexts xs old middle → HasTexts ys middle new → HasTexts (xs ++ ys) old new
   both-written xs ys old middle new whole first then =
@@ -36,30 +39,62 @@ module _ (IsText : List ℕ → List ℕ → Type 0) where
             (Appends-trans old middle new (flat_map one first.texts) (flat_map one then.texts) first.written then.written);
       }
 
-  module _ {S : Type 0} (Is : S → List ℕ → ℕ → Option (List ℕ) → Option (List ℕ) → Type 0)
-      (each : (asker : S) (part : List ℕ) (own : ℕ) (before after : Option (List ℕ)) → own ≤ 1 → Is asker part own before after → HasTexts part before after) where
+module _ {R : Type 0} (answers : R → Option Answers) (query : Query R) (wanted : Wanted) where
+  abbrev Parts : ℕ → List ℕ → ℕ → Option (List ℕ) → Option (List ℕ) → Type 0
+  Parts n text status old new = HasAnsweredParts answers query wanted n text status old new
+
+  -- one part more is answered
+  pub part-more : (n : ℕ) (before part : List ℕ) (worst own status : ℕ) (old middle new : Option (List ℕ)) → Parts n before worst old middle
+      → IsAnswered answers query wanted (lines_of part) own middle new → AreWhole part → status ≡ max worst own → Parts (suc n) (before ++ part) status old new
+  part-more n before part worst own status old middle new parts is whole worse =
+      (before, part, worst, own, middle, new, parts, is, Keeps-refl new, whole, refl, worse)
+
+  -- and what was written is kept
+  pub parts-kept : (n : ℕ) (text : List ℕ) (status : ℕ) (old middle new : Option (List ℕ)) → Parts n text status old middle → Keeps middle new → Parts n text status old new
+  parts-kept zero text status old middle new (none, found, kept) more = (none, found, Keeps-trans old middle new kept more)
+  parts-kept (suc n) text status old middle new (before, part, worst, own, first, written, parts, is, kept, whole, text_is, worse) more =
+      (before, part, worst, own, first, written, parts, is, Keeps-trans written middle new kept more, whole, text_is, worse)
+
+  -- parts after other parts
+  pub parts-append : (n m : ℕ) (xs ys : List ℕ) (worst own status : ℕ) (old middle new : Option (List ℕ)) → Parts n xs worst old middle → Parts m ys own middle new
+      → status ≡ max worst own → (k : ℕ) × Parts k (xs ++ ys) status old new
+  parts-append n zero xs ys worst own status old middle new parts (none, found, kept) worse =
+      let same : worst ≡ status = omega (arith, worse, found) in (
+        n,
+        subst (λ (text : List ℕ). Parts n text status old new) (sym (ap (λ (more : List ℕ). xs ++ more) none ∙ append-nil xs))
+            (subst (λ its. Parts n xs its old new) same (parts-kept n xs worst old middle new parts kept)),
+      )
+  parts-append n (suc m) xs ys worst own status old middle new parts (before, part, w, o, first, written, more, is, kept, whole, text_is, its) worse =
+      let rest = parts-append n m xs before worst w (max worst w) old middle first parts more refl in (
+        suc rest.0,
+        (
+          xs ++ before,
+          part,
+          max worst w,
+          o,
+          first,
+          written,
+          rest.1,
+          is,
+          kept,
+          whole,
+          ap (λ (text : List ℕ). xs ++ text) text_is ∙ sym (append_assoc xs before part),
+          omega (arith, worse, its),
+        ),
+      )
+
+  module _ (IsText : List ℕ → List ℕ → Type 0)
+      (each : (lines : List (List ℕ)) (own : ℕ) (before after : Option (List ℕ)) → own ≤ 1 → IsAnswered answers query wanted lines own before after
+      → HasAnsweredEach IsText lines before after) where
     -- what is written for each part is so for the text
-    pub parts-written : (n : ℕ) (last : S) (text : List ℕ) (status : ℕ) (old new : Option (List ℕ)) → status ≤ 1 → HasAnsweredParts Is n last text status old new
-        → AreWhole text × HasTexts text old new
-    parts-written zero last text status old new low (none, _, same) =
-        (subst AreWhole (sym none) refl, subst (λ (t : List ℕ). HasTexts t old new) (sym none) (subst (HasTexts [] old) (sym same) (none-written old)))
-    parts-written (suc n) last text status old new low (before, part, worst, own, earlier, middle, parts, is, whole, text_is, worse) =
-        let first = parts-written n earlier before worst old middle (omega (arith, low, worse)) parts in
-        let then = each last part own middle new (omega (arith, low, worse)) is in (
+    pub parts-written : (n : ℕ) (text : List ℕ) (status : ℕ) (old new : Option (List ℕ)) → status ≤ 1 → Parts n text status old new
+        → AreWhole text × HasTexts IsText text old new
+    parts-written zero text status old new low (none, found, kept) =
+        (subst AreWhole (sym none) refl, subst (λ (t : List ℕ). HasTexts IsText t old new) (sym none) (none-written IsText old new kept))
+    parts-written (suc n) text status old new low (before, part, worst, own, middle, written, parts, is, kept, whole, text_is, worse) =
+        let first = parts-written n before worst old middle (omega (arith, low, worse)) parts in
+        let last = each (lines_of part) own middle written (omega (arith, low, worse)) is in
+        let then : HasTexts IsText part middle new = record { texts = last.texts; each = last.each; written = Appends-kept middle written new _ last.written kept } in (
           subst AreWhole (sym text_is) (whole-append before part first.0 whole),
-          subst (λ (t : List ℕ). HasTexts t old new) (sym text_is) (both-written before part old middle new first.0 first.1 then),
+          subst (λ (t : List ℕ). HasTexts IsText t old new) (sym text_is) (both-written IsText before part old middle new first.0 first.1 then),
         )
-
-  -- and so is what is written for chunks of a text in parts
-  module _ {S : Type 0} (Is : S → List ℕ → ℕ × Option NoAnswer → Option (List ℕ) → Option (List ℕ) → Type 0)
-      (each : (asker : S) (part : List ℕ) (own : ℕ) (why : Option NoAnswer) (before after : Option (List ℕ)) → own ≤ 1 → Is asker part (own, why) before after → HasTexts part before after) where
-    chunk-written : (asker : S) (chunk : List ℕ) (own : ℕ) (before after : Option (List ℕ)) → own ≤ 1 → IsChunkAnswered Is asker chunk own before after → HasTexts chunk before after
-    chunk-written asker chunk own before after low (n, middle, parts, kept) =
-        let has = (parts-written (λ earlier part its from to. (why : Option NoAnswer) × Is earlier part (its, why) from to)
-        (λ earlier part its from to small is. each earlier part its is.0 from to small is.1) n asker chunk own before middle low parts).1 in
-        record { texts = has.texts; each = has.each; written = Appends-kept before middle after (flat_map one has.texts) has.written kept }
-
-    pub chunks-written : (n : ℕ) (last : S) (text : List ℕ) (status : ℕ) (old new : Option (List ℕ)) → status ≤ 1
-        → HasAnsweredParts (λ asker chunk own before after. IsChunkAnswered Is asker chunk own before after) n last text status old new → HasTexts text old new
-    chunks-written n last text status old new low parts =
-        (parts-written (λ asker chunk own before after. IsChunkAnswered Is asker chunk own before after) chunk-written n last text status old new low parts).1

@@ -9,10 +9,6 @@ pub kept-found : {S E T : Type 0} (P : S → Type 0) (Has : T → Type 0) (store
     → ran ≡ Ok found → kept ≡ Some store → IfOk ran Has → (Has found → P store) → IsSomeAnd kept P
 kept-found P Has store kept ran found is same has both = subst (λ k. IsSomeAnd k P) (sym same) (both (subst (λ r. IfOk r Has) is has))
 
--- what a call found holds of what it returned
-pub ran-found : {E T : Type 0} (Has : T → Type 0) (ran : Result T E) (found : T) → ran ≡ Ok found → IfOk ran Has → Has found
-ran-found Has ran found is has = subst (λ r. IfOk r Has) is has
-
 -- the status, by whether the store is whole
 pub status-is : (skipped : List Error) (is_whole any : Bool) (status : ℕ) → IsTrue is_whole ↔ (skipped ≡ [])
     → status ≡ (if is_whole then (if any then 0 else 1) else 2) → IsStatus skipped any status

@@ -1,11 +1,12 @@
 -- What contracts say of the answers of a store.
-use Rattle.std.specs.Prelude.{ℕ, All, IfSome, is_none, zero, suc, max, ◌≡◌, ◌≢◌, ◌++◌, Bool, List, [], Option, if◌then◌else◌}
+use Rattle.std.specs.Prelude.{ℕ, All, is_none, zero, suc, max, ◌≡◌, ◌≢◌, ◌++◌, Bool, List, [], Option, if◌then◌else◌}
+use Rattle.std.specs.Global.{Global}
 use Rattle.std.specs.Io.KnownBytes.{Keeps}
 use Rattle.id_lookup.specs.Words.{KindDigits, first_byte_of}
 use Rattle.object_store.specs.Stores.{StoreView}
-use Rattle.store_questions.specs.WholeLines.{AreWhole, made_whole}
-use Rattle.store_questions.specs.declared.request.Ask.{Ask}
-use Rattle.store_questions.specs.declared.request.Ask.TheVariants as asks
+use Rattle.streams.specs.Streams.{lines_of}
+use Rattle.store_questions.specs.WholeLines.{AreWhole}
+use Rattle.store_questions.specs.declared.request.Query.{Query}
 use Rattle.store_questions.specs.declared.request.Question.{Question}
 use Rattle.store_questions.specs.declared.request.Question.TheVariants.{Abbreviate, Find, Locate}
 use Rattle.packtool_commands.specs.Stores.{HasAnsweredMatches, HasLocatedEach, HasAbbreviatedEach, prefixes_of}
@@ -47,32 +48,20 @@ pub record HasAsked (A : Type 0) (question : Question) (least : ℕ) (wanted : W
   pub listed : All (λ (prefix : KindDigits). IsListedBy which (first_byte_of prefix.digits)) (prefixes_of view.kind lines)
   pub objects : skipped ≡ [] → IfKnown (λ at. HasAllOf at (purpose_of question) which directory view) known
 
--- a text was answered in n parts of whole lines, one after the other, and the worst of their statuses is this: `IsAnswer` says what was written for a part, by
--- what answered it as that was then, which is `last` for the last part
-abbrev pub HasAnsweredParts : {S : Type 0} → (S → List ℕ → ℕ → Option (List ℕ) → Option (List ℕ) → Type 0) → ℕ → S → List ℕ → ℕ → Option (List ℕ)
-    → Option (List ℕ) → Type 0
-HasAnsweredParts IsAnswer zero last text status old new = (text ≡ []) × (status ≡ 0) × (new ≡ old)
-HasAnsweredParts {S} IsAnswer (suc n) last text status old new =
-    (before : List ℕ) × (part : List ℕ) × (worst : ℕ) × (own : ℕ) × (earlier : S) × (middle : Option (List ℕ))
-    × HasAnsweredParts IsAnswer n earlier before worst old middle × IsAnswer last part own middle new
+-- a store was asked for lines and answered so
+abbrev pub IsAnswered : {R : Type 0} → (R → Option Answers) → Query R → Wanted → List (List ℕ) → ℕ → Option (List ℕ) → Option (List ℕ) → Type 0
+IsAnswered answers query wanted lines status old new =
+    (which : LooseIds) × (pack_path : ℕ → List ℕ) × (loose_paths : List ℕ → List (List ℕ)) × (view : StoreView) × (skipped : List Error) × (why : Option NoAnswer)
+    × HasAsked Global query.question query.least wanted query.directory.now (answers query.rt.now) which pack_path loose_paths view skipped lines why status old new
+
+-- a text was answered in n parts of whole lines, one after the other, each by a store, and the worst of their statuses is this. After each part it is kept what is
+-- known of the bytes
+abbrev pub HasAnsweredParts : {R : Type 0} → (R → Option Answers) → Query R → Wanted → ℕ → List ℕ → ℕ → Option (List ℕ) → Option (List ℕ) → Type 0
+HasAnsweredParts answers query wanted zero text status old new = (text ≡ []) × (status ≡ 0) × Keeps old new
+HasAnsweredParts answers query wanted (suc n) text status old new =
+    (before : List ℕ) × (part : List ℕ) × (worst : ℕ) × (own : ℕ) × (middle : Option (List ℕ)) × (written : Option (List ℕ))
+    × HasAnsweredParts answers query wanted n before worst old middle × IsAnswered answers query wanted (lines_of part) own middle written × Keeps written new
     × AreWhole part × (text ≡ before ++ part) × (status ≡ max worst own)
-
--- a chunk of the lines was answered in parts, and written then, which keeps what is known of the bytes
-abbrev pub IsChunkAnswered : {S : Type 0} → (S → List ℕ → ℕ × Option NoAnswer → Option (List ℕ) → Option (List ℕ) → Type 0) → S → List ℕ → ℕ
-    → Option (List ℕ) → Option (List ℕ) → Type 0
-IsChunkAnswered IsAnswer asker chunk status old new = (n : ℕ) × (middle : Option (List ℕ))
-    × HasAnsweredParts (λ earlier part own before after. (why : Option NoAnswer) × IsAnswer earlier part (own, why) before after) n asker chunk status old middle
-    × Keeps middle new
-
--- what was asked about was answered: all ids; a prefix; or each line of an input, of which it may be known what it has left
-abbrev pub IsAnswered : {S : Type 0} → (S → ℕ → Option (List ℕ) → Option (List ℕ) → Type 0)
-    → (Wanted → S → List ℕ → ℕ × Option NoAnswer → Option (List ℕ) → Option (List ℕ) → Type 0)
-    → Option (List ℕ) → S → Ask → ℕ → Option (List ℕ) → Option (List ℕ) → Type 0
-IsAnswered HasAll IsAnswer known asker asks.All status old new = HasAll asker status old new
-IsAnswered HasAll IsAnswer known asker (asks.Prefix text wanted) status old new = (why : Option NoAnswer) × IsAnswer wanted asker text.now (status, why) old new
-IsAnswered HasAll IsAnswer known asker (asks.Lines wanted) status old new =
-    (text : List ℕ) × IfSome known (λ all. text ≡ made_whole all) × (n : ℕ)
-    × HasAnsweredParts (λ asker chunk own before after. IsChunkAnswered (IsAnswer wanted) asker chunk own before after) n asker text status old new
 
 -- the prefixes whose loose objects are checked before a question is answered: all of them for `locate`, and none otherwise
 abbrev pub checked_of : {P : Type 0} → Question → List P → List P

@@ -1,5 +1,5 @@
 -- What is written of the objects of directories. Each object is given by the digits of its id.
-use Rattle.std.specs.Prelude.{ℕ, ◌≡◌, ◌≤◌, ◌/◌, ◌%◌, ◌∷◌, ◌++◌, [], All, IfSome, List, Option, flat_map, map, suc, zero}
+use Rattle.std.specs.Prelude.{ℕ, ◌≡◌, ◌/◌, ◌%◌, ◌∷◌, ◌++◌, [], All, IfSome, List, Option, flat_map, map, suc, zero}
 use Rattle.std.specs.Global.{Global}
 use Rattle.std.specs.Io.KnownBytes.{Appends}
 use Rattle.id_lookup.specs.Words.{Kind, id_digits, matches}
@@ -9,13 +9,8 @@ use Rattle.object_store.specs.declared.abbreviations.Abbreviation.{Abbreviation}
 use Rattle.object_store.specs.declared.locations.LocatedId.{LocatedId}
 use Rattle.object_store.specs.declared.abbreviations.AbbreviatedId.{AbbreviatedId}
 use Rattle.packtool_commands.specs.Stores.{HasAnsweredEach, IsTextOf, abbreviation_text, found_text, id_line, limit_for, located_lines, abbreviated_line}
-use Rattle.repositories.specs.Answers.{Answers, IfKnown}
-use Rattle.repositories.specs.declared.finding.ObjectDirectory.{ObjectDirectory}
-use Rattle.directory_store.specs.Opened.{AreObjects, AreRight, AreWithAlternates}
-use Rattle.directory_store.specs.declared.loose.LooseIds.TheVariants as loose_ids
 use Rattle.packtool_commands.specs.declared.printing.Wanted.{Wanted}
 use Rattle.streams.specs.Streams.{lines_of}
-use Rattle.store_questions.specs.Answers.{purpose_of}
 use Rattle.store_questions.specs.WholeLines.{made_whole}
 use Rattle.store_questions.specs.declared.request.Ask.{Ask}
 use Rattle.store_questions.specs.declared.request.Ask.TheVariants as asks
@@ -45,19 +40,6 @@ pub record HasAbbreviatedAll (least : ℕ) (objects : List (List ℕ)) (old new 
   pub all : map (λ (n : AbbreviatedId). id_digits n.id) abbreviated ≡ by_first_byte 256 objects
   pub abbreviations : All (λ (n : AbbreviatedId). IsAbbreviationIn least objects (id_digits n.id) n.abbreviation.digits) abbreviated
   pub written : Appends old new (flat_map abbreviated_line abbreviated)
-
--- as long as directories and files answer the same, a status of 0 or 1 says that all objects of an object directory and its alternates were written so, if what is
--- read of pack indexes and multi-pack-indexes is right
-abbrev pub HasWrittenAll : Question → ℕ → ObjectDirectory → Option Answers → ℕ → Option (List ℕ) → Option (List ℕ) → Type 0
-HasWrittenAll question least directory known status old new = status ≤ 1 → IfKnown (λ at. (directories : List (List ℕ)) (objects : List (List ℕ))
-    → AreWithAlternates at directory directories → AreRight at (purpose_of question) directory.kind directories → AreObjects at directory.kind loose_ids.All directories objects
-    → HasAbbreviatedAll least objects old new) known
-
--- and that each of some lines was answered by these objects
-abbrev pub HasWrittenLines : Question → ℕ → Wanted → ObjectDirectory → Option Answers → List (List ℕ) → ℕ → Option (List ℕ) → Option (List ℕ) → Type 0
-HasWrittenLines question least wanted directory known lines status old new = status ≤ 1 → IfKnown (λ at. (directories : List (List ℕ)) (objects : List (List ℕ))
-    → AreWithAlternates at directory directories → AreRight at (purpose_of question) directory.kind directories → AreObjects at directory.kind loose_ids.All directories objects
-    → HasAnsweredEach (IsAnswerTo question least wanted directory.kind objects) lines old new) known
 
 -- what was asked about was answered by the objects: all ids; a prefix; or each line of an input, of which it may be known what it had left
 abbrev pub HasWritten : Question → ℕ → Kind → List (List ℕ) → Option (List ℕ) → Ask → Option (List ℕ) → Option (List ℕ) → Type 0

@@ -1,20 +1,16 @@
 //! Answers what a request asks.
 
-ghost use Rattle.std.specs.Prelude.{◌≡◌, ◌≢◌, ◌<◌, ◌≤◌, ◌++◌, ℕ, IfOk, IfSome, IsErrOf, List, None, OnErr, OnOk, Option, false, length, max, string_bytes};
+ghost use Rattle.std.specs.Prelude.{◌≡◌, ◌≢◌, ◌<◌, ◌≤◌, ◌++◌, ℕ, IfOk, IfSome, List, None, OnErr, OnOk, false, length, max, string_bytes};
 ghost use Rattle.std.specs.Option.{ForSome};
 ghost use Rattle.packtool_commands.specs.Stores.{prefix_of};
-ghost use Rattle.packtool_commands.specs.declared.printing.Wanted.{Wanted};
-ghost use Rattle.packtool_commands.specs.declared.printing.NoAnswer.{NoAnswer};
 ghost use Rattle.directory_store.specs.Opened.{AreObjects, AreRight, AreWithAlternates};
 ghost use Rattle.directory_store.specs.declared.loose.LooseIds.{LooseIds};
-ghost use Rattle.repositories.specs.Answers.{Answers, IfKnown};
-ghost use Rattle.repositories.specs.declared.finding.ObjectDirectory.{ObjectDirectory};
+ghost use Rattle.repositories.specs.Answers.{IfKnown};
 ghost use Rattle.streams.specs.Devices.{plain_failed, plain_inner};
-ghost use Rattle.store_questions.specs.Answers.{HasAnsweredParts, IsAnswered, IsChunkAnswered, purpose_of};
+ghost use Rattle.streams.specs.Streams.{lines_of};
+ghost use Rattle.store_questions.specs.Answers.{HasAnsweredParts, IsAnswered, purpose_of};
 ghost use Rattle.store_questions.specs.WholeLines.{AreWhole, made_whole};
 ghost use Rattle.store_questions.specs.Written.{HasWritten};
-ghost use Rattle.store_questions.specs.declared.failure.Failure.{Failure};
-ghost use Rattle.store_questions.specs.declared.request.Question.{Question};
 
 use crate::FOUND;
 use crate::asked::Asked;
@@ -25,9 +21,8 @@ use crate::request::{Ask, StoreRequest};
 use crate::words::{beginning, lossy_text};
 use directory_store::StoreFiles;
 use gix_hash::Kind;
-use packtool_commands::{NoAnswer, Wanted, prefix_in};
+use packtool_commands::{Wanted, prefix_in};
 use repositories::{ObjectDirectory, find_objects};
-use std::alloc::Global;
 use std::io::{self, BufWriter};
 use streams::{Plain, Retrying};
 
@@ -71,65 +66,27 @@ pub fn answer_in<'a, R: StoreFiles, I: io::Read + Drop, W: io::Write + Drop>(
         (⟦<BufWriter<W> as io::Write>⟧.contents (plain_inner out.new))) (R.answers rt.now)) }
 {
     let mut asked = Asked::new(host, rt, directory, request)?;
-    answer_ask(host, directory.kind, &mut asked, request.ask, input, out)
-}
-
-// What answers lines over the store as it is then, which it keeps.
-pub(crate) trait AnswerLines {
-    // What is asked, the fewest digits of an abbreviation, the object directory of whose store it
-    // is asked, and what directories and files answer.
-    ghost asked: { Self → Question × ℕ × ObjectDirectory × Option Answers };
-
-    // It wrote what the objects of the directories answer to lines, and ended with a status and
-    // with why the first line that has no answer has none.
-    ghost is_answer: { Question × ℕ × ObjectDirectory × Option Answers → Wanted → Self
-        → List ℕ → ℕ × Option NoAnswer → Option (List ℕ) → Option (List ℕ) → Type 0 };
-
-    // It wrote the abbreviations of all objects of the directories, and ended with a status.
-    ghost has_all: { Question × ℕ × ObjectDirectory × Option Answers → Self → ℕ
-        → Option (List ℕ) → Option (List ℕ) → Type 0 };
-
-    // Writes the abbreviations of all ids of the store as it is now, and returns the status.
-    fn write_all<'a, W: io::Write>(&mut self, out: &mut Plain<W>) -> Result<u8, Failure<'a>>
-        requires { plain_failed out.old ≡ false }
-        ensures output { OnOk result (plain_failed out.new ≡ false) }
-        ensures abbreviated { IfOk result (λ status. has_all (asked self.old) self.new status
-            (W.contents (plain_inner out.old)) (W.contents (plain_inner out.new))) };
-
-    // Writes what each of the lines finds in the store as it is now, and returns the status, and
-    // why the first line that has no answer has none. If several find more than is held at a time,
-    // then nothing is written, and the error is `TooMany`.
-    fn write_for_lines<'a, W: io::Write>(
-        &mut self,
-        lines: &[u8],
-        wanted: Wanted,
-        out: &mut Plain<W>,
-    ) -> Result<(u8, Option<NoAnswer>), Failure<'a>>
-        requires { plain_failed out.old ≡ false }
-        ensures same { asked self.new ≡ asked self.old }
-        ensures output { OnOk result (plain_failed out.new ≡ false) }
-        ensures untouched { IsErrOf result Failure.TooMany → out.new ≡ out.old }
-        ensures answered { IfOk result (λ ended. is_answer (asked self.old) wanted self.new
-            lines.now ended (W.contents (plain_inner out.old))
-            (W.contents (plain_inner out.new))) };
+    match request.ask {
+        Ask::All => asked.write_all(out),
+        Ask::Prefix(text, wanted) => answer_prefix(&mut asked, text, wanted, out),
+        Ask::Lines(wanted) => answer_input(&mut asked, wanted, input, out),
+    }
 }
 
 // Looks lines up, fewer at a time if they find too much, and returns the worst status. A single
 // line may find more.
-fn answer_lines<'a, A: AnswerLines, W: io::Write>(
-    asked: &mut A,
+fn answer_lines<'a, R: StoreFiles, W: io::Write>(
+    asked: &mut Asked<'_, R>,
     lines: &[u8],
     wanted: Wanted,
     out: &mut Plain<W>,
 ) -> Result<u8, Failure<'a>>
     requires output { plain_failed out.old ≡ false }
     requires whole { AreWhole lines.now }
-    ensures same { A.asked asked.new ≡ A.asked asked.old }
+    ensures same { asked.new.query ≡ asked.old.query }
     ensures output { OnOk result (plain_failed out.new ≡ false) }
-    ensures answered { IfOk result (λ status. (n : ℕ) × HasAnsweredParts
-        (λ asker part own before after. (why : Option NoAnswer)
-        × A.is_answer (A.asked asked.old) wanted asker part (own, why) before after)
-        n asked.new lines.now status
+    ensures answered { IfOk result (λ status. (n : ℕ)
+        × HasAnsweredParts R.answers asked.old.query wanted n lines.now status
         (W.contents (plain_inner out.old)) (W.contents (plain_inner out.new))) }
 {
     let mut rest = lines;
@@ -140,7 +97,7 @@ fn answer_lines<'a, A: AnswerLines, W: io::Write>(
             return Ok(status);
         }
         let (part, after) = first_lines(rest, len);
-        match asked.write_for_lines(part, wanted, out) {
+        match asked.write_lines(part, wanted, out) {
             Ok(ended) => {
                 status = status.max(ended.0);
                 rest = after;
@@ -152,51 +109,27 @@ fn answer_lines<'a, A: AnswerLines, W: io::Write>(
     Err(Failure::TooMany)
 }
 
-// Writes what is found for what a request is about: for all ids, for a prefix, or for the lines of
-// this input.
-fn answer_ask<'a, A: AnswerLines, I: io::Read + Drop, W: io::Write + Drop>(
-    host: &HostRuntime,
-    kind: Kind,
-    asked: &mut A,
-    ask: Ask<'a>,
-    input: I,
-    out: &mut Plain<BufWriter<W>>,
-) -> Result<u8, Failure<'a>>
-    requires { plain_failed out.old ≡ false }
-    ensures output { OnOk result (plain_failed out.new ≡ false) }
-    ensures answered { IfOk result (λ status. IsAnswered (A.has_all (A.asked asked.old))
-        (A.is_answer (A.asked asked.old)) (I.remaining input) asked.new ask.entry status
-        (⟦<BufWriter<W> as io::Write>⟧.contents (plain_inner out.old))
-        (⟦<BufWriter<W> as io::Write>⟧.contents (plain_inner out.new))) }
-{
-    match ask {
-        Ask::All => return asked.write_all(out),
-        Ask::Prefix(text, wanted) => return answer_prefix(host, kind, asked, text, wanted, out),
-        Ask::Lines(wanted) => return answer_input(host.alloc(), asked, wanted, input, out),
-    }
-}
-
 // Writes what is found for a prefix, as for a line of standard input. If one id is asked for, and
 // there is none, or more than one, it reports which of the two it is.
-fn answer_prefix<'a, A: AnswerLines, W: io::Write>(
-    host: &HostRuntime,
-    kind: Kind,
-    asked: &mut A,
+fn answer_prefix<'a, R: StoreFiles, W: io::Write>(
+    asked: &mut Asked<'_, R>,
     text: &'a str,
     wanted: Wanted,
     out: &mut Plain<W>,
 ) -> Result<u8, Failure<'a>>
     requires { plain_failed out.old ≡ false }
-    ensures same { A.asked asked.new ≡ A.asked asked.old }
+    ensures same { asked.new.query ≡ asked.old.query }
     ensures output { OnOk result (plain_failed out.new ≡ false) }
-    ensures prefix { OnOk result (prefix_of kind text.now ≢ None) }
-    ensures answered { IfOk result (λ status. (why : Option NoAnswer)
-        × A.is_answer (A.asked asked.old) wanted asked.new text.now (status, why)
+    ensures prefix { OnOk result
+        (prefix_of asked.old.query.directory.now.kind text.now ≢ None) }
+    ensures answered { IfOk result (λ status. IsAnswered R.answers asked.old.query wanted
+        (lines_of text.now) status
         (W.contents (plain_inner out.old)) (W.contents (plain_inner out.new))) }
 {
-    expect_prefix(text, kind)?;
-    let (status, why) = asked.write_for_lines(text.as_bytes(), wanted, out)?;
+    expect_prefix(text, asked.query.directory.kind)?;
+    let (status, why) = asked.write_lines(text.as_bytes(), wanted, out)?;
     if let (Wanted::BareOne, Some(why)) = (wanted, why) {
+        let host = asked.query.host;
         report(host, &format!(in host.alloc(); "{text}: {why}")?, "");
     }
     Ok(status)
@@ -204,24 +137,22 @@ fn answer_prefix<'a, A: AnswerLines, W: io::Write>(
 
 // Looks the lines of a reader up. A chunk of them is looked up in the store as it is after they
 // were read. Its output is written before more is read or an error is reported.
-fn answer_input<'a, A: AnswerLines, I: io::Read + Drop, W: io::Write + Drop>(
-    alloc: Global,
-    asked: &mut A,
+fn answer_input<'a, R: StoreFiles, I: io::Read + Drop, W: io::Write + Drop>(
+    asked: &mut Asked<'_, R>,
     wanted: Wanted,
     input: I,
     out: &mut Plain<BufWriter<W>>,
 ) -> Result<u8, Failure<'a>>
     requires { plain_failed out.old ≡ false }
-    ensures same { A.asked asked.new ≡ A.asked asked.old }
+    ensures same { asked.new.query ≡ asked.old.query }
     ensures output { OnOk result (plain_failed out.new ≡ false) }
     ensures answered { IfOk result (λ status. (text : List ℕ)
-        × IfSome (I.remaining input) (λ all. text ≡ made_whole all)
-        × (n : ℕ) × HasAnsweredParts (λ asker chunk own before after. IsChunkAnswered
-        (A.is_answer (A.asked asked.old) wanted) asker chunk own before after)
-        n asked.new text status (⟦<BufWriter<W> as io::Write>⟧.contents (plain_inner out.old))
+        × IfSome (I.remaining input) (λ all. text ≡ made_whole all) × (n : ℕ)
+        × HasAnsweredParts R.answers asked.old.query wanted n text status
+        (⟦<BufWriter<W> as io::Write>⟧.contents (plain_inner out.old))
         (⟦<BufWriter<W> as io::Write>⟧.contents (plain_inner out.new))) }
 {
-    let mut reader = LineReader::new(alloc, input)?;
+    let mut reader = LineReader::new(asked.query.host.alloc(), input)?;
     let mut status = FOUND;
     for _ in 0..u64::MAX {
         if !reader.next()? {

@@ -16,13 +16,11 @@ ghost use Rattle.streams.specs.Devices.{plain_failed, plain_inner};
 ghost use Rattle.streams.specs.Streams.{lines_of};
 ghost use Rattle.store_questions.specs.Answers.{HasAnsweredLines, HasAsked, IsStatus, IsStoreOf, checked_of, purpose_of};
 ghost use Rattle.store_questions.specs.Failures.{failure_of};
-ghost use Rattle.store_questions.specs.Written.{HasWrittenAll, HasWrittenLines};
 ghost use Rattle.store_questions.specs.declared.failure.Failure.{Failure};
 
-use crate::answering::AnswerLines;
 use crate::failure::{Failure, skipped_mark};
 use crate::output::{buffered, write_report};
-use crate::request::{Question, StoreRequest};
+use crate::request::{Query, Question, StoreRequest};
 use crate::{FAILED, FOUND, NOTHING};
 use directory_store::{DirectoryStore, Error, LooseIds, Purpose, StoreFiles};
 use gix_hash::{Kind, Prefix};
@@ -41,24 +39,16 @@ use streams::{BufferedSink, Plain, Sink};
 // The most ids or locations of several lines that are held at a time.
 const MAX_FOUND: usize = 1 << 16;
 
-// What is asked of the store of an object directory.
+// What is asked, and the store that answers.
 #[derive(Drop)]
 pub(crate) struct Asked<'r, R: StoreFiles> {
-    // Where it prints, and what it reads the store by.
-    host: &'r HostRuntime,
-    rt: &'r R,
-    directory: &'r ObjectDirectory,
-    question: Question,
-    // The fewest digits of an abbreviation.
-    least: usize,
+    pub(crate) query: Query<'r, R>,
     // The store that was asked last.
     kept: Option<DirectoryStore<R>>,
     // The reports on what is skipped that were printed.
     reported: BTreeSet<String>,
-    ghost enough: { 4 ≤ least },
-    ghost fits: { least ≤ hex_len_of directory.now.kind },
-    ghost kept_is_of: { ForSome kept (λ store. IsStoreOf directory.now (purpose_of question)
-        (R.answers rt.now) store.directory store.purpose
+    ghost kept_is_of: { ForSome kept (λ store. IsStoreOf query.directory.now
+        (purpose_of query.question) (R.answers query.rt.now) store.directory store.purpose
         (R.answers store.rt)) } by { Prim.hlevel props },
 }
 
@@ -70,17 +60,20 @@ impl<'r, R: StoreFiles> Asked<'r, R> {
         directory: &'r ObjectDirectory,
         request: &StoreRequest<'a>,
     ) -> Result<Self, Failure<'a>>
-        ensures question { IfOk result (λ asked. asked.question ≡ request.now.question) }
-        ensures least { IfOk result (λ asked. asked.least ≡ max request.now.least 4) }
-        ensures directory { IfOk result (λ asked. asked.directory.now ≡ directory.now) }
-        ensures rt { IfOk result (λ asked. asked.rt.now ≡ rt.now) }
+        ensures question { IfOk result (λ asked. asked.query.question ≡ request.now.question) }
+        ensures least { IfOk result (λ asked. asked.query.least ≡ max request.now.least 4) }
+        ensures directory { IfOk result (λ asked. asked.query.directory.now ≡ directory.now) }
+        ensures rt { IfOk result (λ asked. asked.query.rt.now ≡ rt.now) }
     {
-        Ok(Asked {
+        let query = Query {
             host,
             rt,
             directory,
             question: request.question,
             least: least_in(directory.kind, request.least)?,
+        };
+        Ok(Asked {
+            query,
             kept: None,
             reported: BTreeSet::new(host.alloc()),
         })
@@ -90,7 +83,7 @@ impl<'r, R: StoreFiles> Asked<'r, R> {
 impl<R: StoreFiles> Asked<'_, R> {
     // Opens the store, and writes the lines of `abbreviate`. Lines that were written before the
     // store was opened again may lack ids that were skipped then.
-    fn write_all_abbreviations<'a, W: io::Write>(
+    pub(crate) fn write_all<'a, W: io::Write>(
         &mut self,
         out: &mut Plain<W>,
     ) -> Result<u8, Failure<'a>>
@@ -98,27 +91,25 @@ impl<R: StoreFiles> Asked<'_, R> {
         ensures output { OnOk result (plain_failed out.new ≡ false) }
         ensures answered { IfOk result (λ status. IsSomeAnd self.new.kept (λ store. (any : Bool)
             × IsStatus (store.skipped_before.items ++ store.skipped.items) any status
-            × (first : _) × IsStoreOf self.old.directory.now (purpose_of self.old.question)
-            (R.answers self.old.rt.now) first.directory first.purpose (R.answers first.rt)
+            × (first : _) × IsStoreOf self.old.query.directory.now
+            (purpose_of self.old.query.question) (R.answers self.old.query.rt.now)
+            first.directory first.purpose (R.answers first.rt)
             × (first.loose.which ≡ LooseIds.All)
-            × HasAbbreviatedBelow 256 self.old.least
+            × HasAbbreviatedBelow 256 self.old.query.least
             (⟦<DirectoryStore<R> as Reopen>⟧.had first store) any
             (W.contents (plain_inner out.old)) (W.contents (plain_inner out.new)))) }
-        ensures written { IfOk result (λ status. HasWrittenAll self.old.question self.old.least
-            self.old.directory.now (R.answers self.old.rt.now) status
-            (W.contents (plain_inner out.old)) (W.contents (plain_inner out.new))) }
     {
-        let now = now_or_before(self.host);
-        let (purpose, all) = (purpose_of(self.question), LooseIds::All);
+        let (purpose, all) = (purpose_of(self.query.question), LooseIds::All);
+        let now = now_or_before(self.query.host);
         let mut store = DirectoryStore::open_for_refresh(
-            self.rt,
-            self.directory,
+            self.query.rt,
+            self.query.directory,
             purpose,
             all,
             now,
         )?;
-        let ran = abbreviate_all(self.host.alloc(), &mut store, self.least, out);
-        let was_whole = report_skipped(self.host, store.skipped_before(), &mut self.reported);
+        let ran = abbreviate_all(self.query.host.alloc(), &mut store, self.query.least, out);
+        let was_whole = report_skipped(self.query.host, store.skipped_before(), &mut self.reported);
         let kept = self.keep(store, ran, out)?;
         let status = status_if(kept.1, kept.0);
         if was_whole? { Ok(status) } else { Ok(FAILED) }
@@ -126,54 +117,53 @@ impl<R: StoreFiles> Asked<'_, R> {
 
     // The prefixes whose loose objects are checked: all of them for `locate`, and none otherwise.
     fn checked<'p>(&self, prefixes: &'p [Prefix]) -> &'p [Prefix]
-        ensures { result.now ≡ checked_of self.now.question prefixes.now }
+        ensures { result.now ≡ checked_of self.now.query.question prefixes.now }
     {
-        match self.question {
+        match self.query.question {
             Question::Locate => prefixes,
             _ => &[],
         }
     }
 
-    // Writes what each of the lines finds in the store as it is now.
-    fn write_lines<'a, W: io::Write>(
+    // Writes what each of the lines finds in the store as it is now, and returns the status, and
+    // why the first line that has no answer has none. If several find more than is held at a time,
+    // then nothing is written, and the error is `TooMany`.
+    pub(crate) fn write_lines<'a, W: io::Write>(
         &mut self,
         lines: &[u8],
         wanted: Wanted,
         out: &mut Plain<W>,
     ) -> Result<(u8, Option<NoAnswer>), Failure<'a>>
         requires { plain_failed out.old ≡ false }
-        ensures question { self.new.question ≡ self.old.question }
-        ensures least { self.new.least ≡ self.old.least }
-        ensures directory { self.new.directory ≡ self.old.directory }
-        ensures rt { self.new.rt ≡ self.old.rt }
+        ensures same { self.new.query ≡ self.old.query }
         ensures output { OnOk result (plain_failed out.new ≡ false) }
         ensures untouched { IsErrOf result Failure.TooMany → out.new ≡ out.old }
         ensures answered { IfOk result (λ ended. IsSomeAnd self.new.kept (λ store. HasAsked Global
-            self.old.question self.old.least wanted self.old.directory.now
-            (R.answers self.old.rt.now) store.loose.which
+            self.old.query.question self.old.query.least wanted self.old.query.directory.now
+            (R.answers self.old.query.rt.now) store.loose.which
             (⟦<DirectoryStore<R> as StorePaths>⟧.pack_path store)
             (⟦<DirectoryStore<R> as StorePaths>⟧.loose_paths store)
             (⟦<DirectoryStore<R> as Store>⟧.view store) store.skipped.items (lines_of lines.now)
             ended.1 ended.0 (W.contents (plain_inner out.old))
             (W.contents (plain_inner out.new)))) }
     {
-        let alloc = self.host.alloc();
-        let lines = PrefixLines::read(alloc, self.directory.kind, lines)?;
+        let alloc = self.query.host.alloc();
+        let lines = PrefixLines::read(alloc, self.query.directory.kind, lines)?;
         let loose = loose_of(lines.prefixes());
         let checked = self.checked(lines.prefixes());
         let mut store = store_now(
-            self.host,
-            self.rt,
-            self.directory,
-            purpose_of(self.question),
+            self.query.host,
+            self.query.rt,
+            self.query.directory,
+            purpose_of(self.query.question),
             self.kept.take(),
             loose,
             checked,
         )?;
         let ran = ask_for_lines(
             alloc,
-            self.question,
-            self.least,
+            self.query.question,
+            self.query.least,
             &mut store,
             &lines,
             wanted,
@@ -191,8 +181,9 @@ impl<R: StoreFiles> Asked<'_, R> {
         ran: Result<T, StoreError>,
         out: &Plain<W>,
     ) -> Result<(T, bool), Failure<'a>>
-        requires of { IsStoreOf self.old.directory.now (purpose_of self.old.question)
-            (R.answers self.old.rt.now) store.directory store.purpose (R.answers store.rt) }
+        requires of { IsStoreOf self.old.query.directory.now (purpose_of self.old.query.question)
+            (R.answers self.old.query.rt.now) store.directory store.purpose
+            (R.answers store.rt) }
         requires output { IsErrOf ran StoreError.Output ↔ (plain_failed out.now ≡ true) }
         ensures ran { IfOk result (λ kept. ran ≡ Ok kept.0) }
         ensures whole { IfOk result (λ kept. IsTrue kept.1 ↔ (store.skipped.items ≡ [])) }
@@ -200,15 +191,13 @@ impl<R: StoreFiles> Asked<'_, R> {
         ensures objects { OnOk result (store.skipped.items ≡ [] → IfKnown (λ at. HasAllOf at
             store.purpose store.loose.which store.directory
             (⟦<DirectoryStore<R> as Store>⟧.view store)) (R.answers store.rt)) }
-        ensures question { self.new.question ≡ self.old.question }
-        ensures least { self.new.least ≡ self.old.least }
-        ensures directory { self.new.directory ≡ self.old.directory }
-        ensures rt { self.new.rt ≡ self.old.rt }
+        ensures same { self.new.query ≡ self.old.query }
         ensures many { IsErrOf result Failure.TooMany → IsErrOf ran StoreError.TooMany }
         ensures output { OnOk result (plain_failed out.now ≡ false) }
     {
+        let host = self.query.host;
         let found = match ran {
-            Ok(found) => match report_skipped(self.host, store.skipped(), &mut self.reported) {
+            Ok(found) => match report_skipped(host, store.skipped(), &mut self.reported) {
                 Ok(is_whole) => Ok((found, is_whole)),
                 Err(error) => Err(Failure::from(error)),
             },
@@ -218,35 +207,6 @@ impl<R: StoreFiles> Asked<'_, R> {
         };
         drop(self.kept.replace(store));
         found
-    }
-}
-
-impl<R: StoreFiles> AnswerLines for Asked<'_, R> {
-    ghost asked = { λ asked. (
-      asked.question,
-      asked.least,
-      asked.directory.now,
-      R.answers asked.rt.now,
-    ) };
-
-    ghost is_answer = { λ (question, least, directory, known) wanted asked lines (status, why) old
-        new. HasWrittenLines question least wanted directory known (lines_of lines) status old
-        new };
-
-    ghost has_all = { λ (question, least, directory, known) asked status old new. HasWrittenAll
-        question least directory known status old new };
-
-    fn write_all<'a, W: io::Write>(&mut self, out: &mut Plain<W>) -> Result<u8, Failure<'a>> {
-        self.write_all_abbreviations(out)
-    }
-
-    fn write_for_lines<'a, W: io::Write>(
-        &mut self,
-        lines: &[u8],
-        wanted: Wanted,
-        out: &mut Plain<W>,
-    ) -> Result<(u8, Option<NoAnswer>), Failure<'a>> {
-        self.write_lines(lines, wanted, out)
     }
 }
 

@@ -1,7 +1,11 @@
 //! What is asked of a store.
 
+ghost use Rattle.std.specs.Prelude.{◌≤◌};
+ghost use Rattle.gix_hash.specs.Words.{hex_len_of};
+
 use gix_hash::Kind;
 use packtool_commands::Wanted;
+use repositories::ObjectDirectory;
 
 /// A request to look ids up in a store.
 #[derive(Clone, Copy)]
@@ -38,4 +42,18 @@ pub enum Ask<'a> {
     Prefix(&'a str, Wanted),
     /// Each line of standard input, and what is printed for it.
     Lines(Wanted),
+}
+
+// What is asked of the store of an object directory, whatever it is asked about.
+#[derive(Drop)]
+pub(crate) struct Query<'r, R> {
+    // Where it prints, and what it reads the store by.
+    pub(crate) host: &'r HostRuntime,
+    pub(crate) rt: &'r R,
+    pub(crate) directory: &'r ObjectDirectory,
+    pub(crate) question: Question,
+    // The fewest digits of an abbreviation.
+    pub(crate) least: usize,
+    ghost enough: { 4 ≤ least },
+    ghost fits: { least ≤ hex_len_of directory.now.kind },
 }

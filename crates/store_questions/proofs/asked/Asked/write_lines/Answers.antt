@@ -28,7 +28,7 @@ keep-requires-clause-of g c =
 pub returns-clause-answered : goal.returns-clause-answered
 returns-clause-answered g c =
     let first = c.in_ok-store.store in
-    let asked = c.args.self.now in
+    let query = c.args.self.now.query in
     let ran = c.ask_for_lines-ran in
     let store = ran.new.store in
     let of = c.in_ok-store.ensures.of in
@@ -42,7 +42,7 @@ returns-clause-answered g c =
           (subst (λ (text : List ℕ). AreOf store.loose.which (prefixes_of c.in_ok-lines.lines.kind (lines_of text))) c.in_ok-lines.ensures.text
           (subst (AreOf store.loose.which) c.in_ok-lines.lines.are_read
           (are_of _ _ _ _ (had.3 ∙ c.in_ok-store.ensures.listed) c.prefixes.ensures.items c.loose_of-loose.ensures)));
-      objects = λ none at known. moved at store.purpose _ store.loose.which store.loose.which store.directory asked.directory.now _ (had.2 ∙ of.2 ∙ c.purpose_of.ensures) refl (had.0 ∙ of.1)
+      objects = λ none at known. moved at store.purpose _ store.loose.which store.loose.which store.directory query.directory.now _ (had.2 ∙ of.2 ∙ c.purpose_of.ensures) refl (had.0 ∙ of.1)
           (c.in_ok-kept.ensures.objects none at ((had.1 ∙ of.3) ∙ known));
     })
 

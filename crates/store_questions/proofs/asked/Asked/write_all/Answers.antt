@@ -1,8 +1,7 @@
-use Rattle.gix_hash.proofs.Std.{arith, ◌∙◌, refl, ◌≤◌}
+use Rattle.gix_hash.proofs.Std.{◌∙◌, refl}
 use Rattle.directory_store.proofs.Wholes.{both_nil}
-use Rattle.store_questions.proofs.FromStores.{all_written}
-use Rattle.store_questions.proofs.StatusLemmas.{kept-found, ran-found, status-failed, status-is, status-whole}
-use Rattle.store_questions.proofs.asked.Asked.write_all_abbreviations.Goals as goal
+use Rattle.store_questions.proofs.StatusLemmas.{kept-found, status-failed, status-is, status-whole}
+use Rattle.store_questions.proofs.asked.Asked.write_all.Goals as goal
 
 pub abbreviate_all-ran-requires-clause-has : goal.abbreviate_all-ran-requires-clause-has
 abbreviate_all-ran-requires-clause-has g c =
@@ -40,19 +39,3 @@ returns-else-branch-clause-answered g c =
       c.in_ok-store.ensures.listed,
       has,
     ))
-
-pub returns-then-branch-clause-written : goal.returns-then-branch-clause-written
-returns-then-branch-clause-written g c = λ low at known directories objects alternates right are.
-    let asked = c.args.self.now in
-    let store = c.in_ok-store.store in
-    let of = c.in_ok-store.ensures in
-    let any = c.in_ok-kept.kept.0 in
-    let two : 2 ≤ asked.least = omega (arith, asked.enough) in
-    let ended = status-whole _ _ _ any _ (rw c.skipped_before.ensures at c.in_ok-was_whole.ensures) c.if-branch.true
-    (status-is _ c.in_ok-kept.kept.1 any _ c.in_ok-kept.ensures.whole c.status_if-status.ensures) in
-    all_written at (g.R.Directories.answers asked.rt.now) known asked.directory.now directories objects alternates asked.question right are asked.least two
-    store.directory store.purpose (g.R.Directories.answers store.rt) store.loose.which _ any _ _ _ _ low ended (of.kind, of.place, of.purpose ∙ c.purpose_of-purpose.ensures, of.answers) of.listed
-    (ran-found _ c.abbreviate_all-ran.result any c.in_ok-kept.ensures.ran c.abbreviate_all-ran.ensures.abbreviated) (λ view (_, _, _, _, kind, has). (kind, has))
-
-pub returns-else-branch-clause-written : goal.returns-else-branch-clause-written
-returns-else-branch-clause-written g c = λ low. absurd (omega (arith, low))
