@@ -1,7 +1,9 @@
 -- The parts of a line, one after the other.
 use Rattle.gix_hash.proofs.Std.{◌≡◌, ℕ, List, [], ◌∷◌, ◌++◌, append_assoc}
 use Rattle.packtool_commands.specs.Files.{line_of_object}
-use Rattle.packtool_commands.specs.Stores.{line_of_abbreviation}
+use Rattle.id_lookup.specs.Words.{hex_letter, id_digits, spelling}
+use Rattle.object_store.specs.declared.abbreviations.AbbreviatedId.{AbbreviatedId}
+use Rattle.packtool_commands.specs.Stores.{abbreviated_line}
 
 -- parts that are added one after the other are a line, after what was there before
 pub line_parts : (front offset id crc : List ℕ)
@@ -10,6 +12,7 @@ unfolding line_of_object
 line_parts front offset id crc = simp append_assoc
 
 -- and of an abbreviation
-pub name_parts : (front name id : List ℕ) → front ++ name ++ 32 ∷ [] ++ id ++ 10 ∷ [] ≡ front ++ line_of_abbreviation name id
-unfolding line_of_abbreviation
-name_parts front name id = simp append_assoc
+pub abbreviation_parts : (front : List ℕ) (n : AbbreviatedId)
+    → front ++ spelling hex_letter n.abbreviation.digits ++ 32 ∷ [] ++ spelling hex_letter (id_digits n.id) ++ 10 ∷ [] ≡ front ++ abbreviated_line n
+unfolding abbreviated_line
+abbreviation_parts front n = simp append_assoc

@@ -157,13 +157,9 @@ HasBegunMatches A wanted view lines old new =
 
 -- The lines of the ids of a store, each with its abbreviation.
 
--- the texts of an abbreviation and an id in a line: a space between them, and a line feed
-unfoldable pub line_of_abbreviation : List ℕ → List ℕ → List ℕ
-line_of_abbreviation short id = short ++ 32 ∷ id ++ 10 ∷ []
-
--- the line of an id: its abbreviation and the id, both in hex
-abbrev pub abbreviated_line : AbbreviatedId → List ℕ
-abbreviated_line n = line_of_abbreviation (spelling hex_letter n.abbreviation.digits) (spelling hex_letter (id_digits n.id))
+-- the line of an id: its abbreviation and the id, both in hex, a space between them, and a line feed
+unfoldable pub abbreviated_line : AbbreviatedId → List ℕ
+abbreviated_line n = spelling hex_letter n.abbreviation.digits ++ 32 ∷ spelling hex_letter (id_digits n.id) ++ 10 ∷ []
 
 -- these are the ids whose first byte is below n, a byte after the other, each with its abbreviation: those with one byte in one of the stores that were seen
 unfoldable pub AreAbbreviatedBelow : ℕ → ℕ → (StoreView → Type 0) → List AbbreviatedId → Type 0
