@@ -7,8 +7,8 @@ use Rattle.streams.specs.Streams.{AppendsBeginning, HasReadAll, HasReadTooMuch, 
 use Rattle.streams.specs.declared.PipeError.{PipeError}
 use Rattle.streams.specs.declared.PipeError.TheVariants as pipe
 use Rattle.list_search.specs.Searches.{Fails, Finds, From}
-use Rattle.oidtool_words.specs.declared.command.Command.{Command}
-use Rattle.oidtool_words.specs.declared.command.Command.TheVariants.{Find, FindChange, FindIn, Hash, HashFile, Seal}
+use Rattle.oidtool_commands.specs.declared.command.Command.{Command}
+use Rattle.oidtool_commands.specs.declared.command.Command.TheVariants.{Find, FindChange, FindIn, Hash, HashFile, Seal}
 use Rattle.oidtool_commands.specs.declared.error.CommandError.{CommandError}
 use Rattle.oidtool_commands.specs.declared.error.CommandError.TheVariants as command
 use Rattle.list_search.specs.declared.search.Search.{Search}

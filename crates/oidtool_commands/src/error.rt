@@ -2,8 +2,8 @@
 
 ghost use Rattle.std.specs.Prelude.{◌≡◌};
 
+use crate::command::ArgError;
 use list_search::SearchError;
-use oidtool_words::ArgError;
 use streams::{PipeError, WriteFailed};
 use thiserror::Error as ThisError;
 

@@ -6,12 +6,15 @@
 //! prints an error, a [`Failure`], and returns the exit status.
 #![tactic(auto)]
 
+mod command;
 mod error;
 mod running;
 mod searching;
+mod status;
+mod words;
 
+pub use command::{ArgError, Command, read_command};
 pub use error::{CommandError, Failure};
-pub use oidtool_words::{
-    ArgError, Command, WordsError, command_line_args, exit_status, read_command, report,
-};
 pub use running::run_command;
+pub use status::{exit_status, report};
+pub use words::{WordsError, command_line_args};

@@ -4,12 +4,12 @@ ghost use Rattle.std.specs.Prelude.{◌≡◌, ◌≢◌, ◌↔◌, [], true, f
 ghost use Rattle.oidtool_commands.specs.Commands.{Does, FailsTo, FailsUnflushed, HashFileFails, WritesOfFile, copies, reads_input};
 ghost use Rattle.oidtool_commands.specs.declared.error.CommandError.{CommandError};
 
+use crate::command::Command;
 use crate::error::CommandError;
 use crate::searching::search_to_end;
 use gix_hash::io::{Never, NoProgress};
 use gix_hash::{Alphabet, Kind, bytes_of_file};
 use list_search::{Search, search_from};
-use oidtool_words::Command;
 use std::alloc::Allocator;
 use std::path::Path;
 use std::rt::Files;

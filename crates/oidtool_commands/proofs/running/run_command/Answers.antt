@@ -2,8 +2,8 @@ use Rattle.gix_hash.proofs.Std.{ℕ, Option, List, inr, refl, Keeps}
 use Rattle.id_lookup.specs.Words.{Hex, Reverse}
 use Rattle.oidtool_commands.specs.Commands.{Does}
 use Rattle.list_search.specs.Searches.{Finds, From}
-use Rattle.oidtool_words.specs.declared.command.Command.{Command}
-use Rattle.oidtool_words.specs.declared.command.Command.TheVariants.{Find, FindChange, FindIn, Hash, HashFile, Seal}
+use Rattle.oidtool_commands.specs.declared.command.Command.{Command}
+use Rattle.oidtool_commands.specs.declared.command.Command.TheVariants.{Find, FindChange, FindIn, Hash, HashFile, Seal}
 use Rattle.list_search.specs.declared.search.Search.{Search}
 use Rattle.list_search.specs.declared.search.Search.TheVariants.{Sorted, In}
 use Rattle.streams.proofs.WritingLemmas.{Appends-kept}

@@ -4,10 +4,10 @@ use Rattle.std.specs.Str.Parse.{IsNumeral, digits_value, without_leading_plus}
 use denote.Ref.{Bor}
 use Rattle.gix_hash.specs.Words.{IsNameOf, IsNoName}
 use Rattle.gix_hash.specs.declared.Kind.{Kind}
-use Rattle.oidtool_words.specs.declared.command.ArgError.{ArgError}
-use Rattle.oidtool_words.specs.declared.command.ArgError.TheVariants.{BadKind, BadNumber, Usage}
-use Rattle.oidtool_words.specs.declared.command.Command.{Command}
-use Rattle.oidtool_words.specs.declared.command.Command.TheVariants.{Find, FindChange, FindIn, Hash, HashFile, Seal}
+use Rattle.oidtool_commands.specs.declared.command.ArgError.{ArgError}
+use Rattle.oidtool_commands.specs.declared.command.ArgError.TheVariants.{BadKind, BadNumber, Usage}
+use Rattle.oidtool_commands.specs.declared.command.Command.{Command}
+use Rattle.oidtool_commands.specs.declared.command.Command.TheVariants.{Find, FindChange, FindIn, Hash, HashFile, Seal}
 
 -- the word is this number, of at most 2^64 - 1: at least one decimal digit, after a `+` or none
 pub record IsNumberOf (word : List ℕ) (n : ℕ) : Type 0 where

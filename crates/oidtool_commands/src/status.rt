@@ -2,7 +2,7 @@
 
 ghost use Rattle.std.specs.Prelude.{◌≡◌};
 ghost use Rattle.std.specs.Process.{exit_status as ended_with};
-ghost use Rattle.oidtool_words.specs.CommandLines.{status_of};
+ghost use Rattle.oidtool_commands.specs.CommandLines.{status_of};
 
 use std::fmt;
 use std::process::ExitCode;

@@ -1,6 +1,6 @@
 use Rattle.gix_hash.proofs.Std.{refl, inr, err_from_is_err_and}
-use Rattle.oidtool_words.proofs.CommandLemmas.{refuses_kind, refuses_number}
-use Rattle.oidtool_words.proofs.command.read_three_words.Goals as goal
+use Rattle.oidtool_commands.proofs.CommandLemmas.{refuses_kind, refuses_number}
+use Rattle.oidtool_commands.proofs.command.read_three_words.Goals as goal
 
 pub returns-in_err-read_kind-in-text-clause-refused : goal.returns-in_err-read_kind-in-text-clause-refused
 returns-in_err-read_kind-in-text-clause-refused c =

@@ -1,7 +1,7 @@
 //! The words that a program is started with.
 
 ghost use Rattle.std.specs.Prelude.{◌≡◌};
-ghost use Rattle.oidtool_words.specs.declared.words.WordsError.TheVariants.{Memory};
+ghost use Rattle.oidtool_commands.specs.declared.words.WordsError.TheVariants.{Memory};
 
 use std::alloc::AllocError;
 use std::rt::Env;

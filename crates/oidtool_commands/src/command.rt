@@ -2,7 +2,7 @@
 
 ghost use Rattle.std.specs.Prelude.{[], ◌∷◌, IfOk, IfErr};
 ghost use Rattle.gix_hash.specs.Words.{IsNameOf};
-ghost use Rattle.oidtool_words.specs.CommandLines.{AsksFor, IsNumberOf, IsKindRefusal, IsNumberRefusal, IsWordsRefusal, texts_of};
+ghost use Rattle.oidtool_commands.specs.CommandLines.{AsksFor, IsNumberOf, IsKindRefusal, IsNumberRefusal, IsWordsRefusal, texts_of};
 
 use gix_hash::Kind;
 use std::fmt;

@@ -2,9 +2,9 @@
 use Rattle.gix_hash.proofs.Std.{ℕ, List, [], ◌∷◌, refl, codes}
 use Rattle.gix_hash.specs.Words.{IsNameOf}
 use Rattle.gix_hash.specs.declared.Kind.{Kind}
-use Rattle.oidtool_words.specs.declared.command.ArgError.{ArgError}
-use Rattle.oidtool_words.specs.declared.command.ArgError.TheVariants.{Usage, BadKind, BadNumber}
-use Rattle.oidtool_words.specs.CommandLines.{TakesKind, IsKindRefusal, IsNumberRefusal, IsWordsRefusal}
+use Rattle.oidtool_commands.specs.declared.command.ArgError.{ArgError}
+use Rattle.oidtool_commands.specs.declared.command.ArgError.TheVariants.{Usage, BadKind, BadNumber}
+use Rattle.oidtool_commands.specs.CommandLines.{TakesKind, IsKindRefusal, IsNumberRefusal, IsWordsRefusal}
 
 -- a word that is rejected as a kind, in the words of its command
 pub refuses_kind : (words : List (List ℕ)) (word : List ℕ) (e : ArgError) → TakesKind words word → IsKindRefusal word e → IsWordsRefusal words e
