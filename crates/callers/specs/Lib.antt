@@ -1,5 +1,5 @@
+pub mod Abbreviations
 pub mod Commits
-pub mod Names
 pub mod Offsets
 pub mod Printed
 pub mod References

@@ -5,10 +5,10 @@
 //! `directory_store` names one.
 #![tactic(auto)]
 
+pub mod abbreviations;
 pub mod branches;
 pub mod checking;
 pub mod commits;
-pub mod names;
 pub mod offsets;
 pub mod paths;
 pub mod printed;

@@ -5,7 +5,7 @@ use Rattle.gix_hash.proofs.SpellingLaws.{spelling-injective}
 use Rattle.gix_hash.specs.Words.{AreIdDigits, hex_letter, id_digits, spelling}
 use Rattle.gix_hash.specs.declared.Kind.{Kind}
 use Rattle.gix_hash.specs.declared.ObjectId.{ObjectId}
-use Rattle.repositories.specs.Stores.{hex_of}
+use Rattle.repositories.specs.Stores.{byte_hex}
 use Rattle.directory_store.specs.Stores.{AppendsLooseIds, IsLooseId}
 use Rattle.directory_store.proofs.Members.{flat_from, flat_has, map_from, map_has, zip_from, zip_has}
 
@@ -25,7 +25,7 @@ one_name kind byte names name old ids new id before is more = record {
 
 -- one of some names, in the directory of a first byte, is that of the loose object whose id has these digits
 abbrev pub IsNamed : Kind → ℕ → List (List ℕ) → List ℕ → Type 0
-IsNamed kind byte names digits = AreIdDigits kind digits × (name : List ℕ) × Contains names name × (hex_of byte ++ name ≡ spelling hex_letter digits)
+IsNamed kind byte names digits = AreIdDigits kind digits × (name : List ℕ) × Contains names name × (byte_hex byte ++ name ≡ spelling hex_letter digits)
 
 only_one : (option : Option ObjectId) (id : ObjectId) → Contains (option_to_list option) id → option ≡ Some id
 only_one None id has = absurd (omega (arith, has.1))
@@ -40,7 +40,7 @@ module _ (kind : Kind) (byte : ℕ) (names : List (List ℕ)) (old new : List Ob
       let one = subst (IsLooseId kind byte name.0) (only_one option.0 id option.2) name.2 in
       (subst (AreIdDigits kind) is one.2, name.0, name.1, one.1 ∙ ap (spelling hex_letter) is)
 
-  one_has : (name : List ℕ) (option : Option ObjectId) → Contains gets.found option → IsLooseId kind byte name option → AreIdDigits kind digits → hex_of byte ++ name ≡ spelling hex_letter digits
+  one_has : (name : List ℕ) (option : Option ObjectId) → Contains gets.found option → IsLooseId kind byte name option → AreIdDigits kind digits → byte_hex byte ++ name ≡ spelling hex_letter digits
       → Contains (map id_digits new) digits
   one_has name None there none are spelled = absurd (none digits are spelled)
   one_has name (Some id) there is are spelled =

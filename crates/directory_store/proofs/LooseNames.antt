@@ -12,7 +12,7 @@ use Rattle.gix_hash.specs.declared.Kind.TheVariants.{Sha1, Sha256}
 use Rattle.gix_hash.specs.declared.ObjectId.{ObjectId}
 use Rattle.repositories.specs.Answers.{◌>>=◌, Answers}
 use Rattle.repositories.specs.Lookups.{if_there}
-use Rattle.repositories.specs.Stores.{hex_of}
+use Rattle.repositories.specs.Stores.{byte_hex}
 use Rattle.repositories.specs.Walks.{state_at}
 use Rattle.repositories.specs.declared.directories.Found.{Found}
 use Rattle.repositories.specs.declared.state.FileState.{FileState}
@@ -46,7 +46,7 @@ module _ (at : Answers) (directory : List ℕ) where
 
   -- digits that are spelled by a name in the fan-out directory of a byte are those of a name in the one of the first two of them
   two_digits : (byte : ℕ) (digits : List ℕ) → 2 ≤ length digits → All (λ d. d < 16) digits
-      → ((name : List ℕ) × Lists (hex_of byte) name × (hex_of byte ++ name ≡ spelling hex_letter digits))
+      → ((name : List ℕ) × Lists (byte_hex byte) name × (byte_hex byte ++ name ≡ spelling hex_letter digits))
       ↔ ((first_byte_of digits ≡ byte) × Lists (spelling hex_letter (take 2 digits)) (spelling hex_letter (drop 2 digits)))
   two_digits byte [] many small = absurd (omega arith)
   two_digits byte (x ∷ []) many small = absurd (omega arith)
@@ -58,11 +58,11 @@ module _ (at : Answers) (directory : List ℕ) where
             let both = spelling-injective (byte / 16 ∷ byte % 16 ∷ []) (x ∷ y ∷ []) (ap (take 2) named.2) in
             let high : byte / 16 ≡ x = cc both in
             let low : byte % 16 ≡ y = cc both in
-            (omega arith, subst (λ (letters : List ℕ). Lists letters rest) (ap (take 2) named.2) (subst (Lists (hex_of byte)) (ap (drop 2) named.2) named.1)),
+            (omega arith, subst (λ (letters : List ℕ). Lists letters rest) (ap (take 2) named.2) (subst (Lists (byte_hex byte)) (ap (drop 2) named.2) named.1)),
         λ has.
             let high : byte / 16 ≡ x = omega (arith, has.0) in
             let low : byte % 16 ≡ y = omega (arith, has.0) in
-            let letters : hex_of byte ≡ spelling hex_letter (x ∷ y ∷ []) = λ i. hex_letter (high i) ∷ hex_letter (low i) ∷ [] in
+            let letters : byte_hex byte ≡ spelling hex_letter (x ∷ y ∷ []) = λ i. hex_letter (high i) ∷ hex_letter (low i) ∷ [] in
             (rest, subst (λ (letters : List ℕ). Lists letters rest) (sym letters) has.1, ap (λ (letters : List ℕ). letters ++ rest) letters),
       )
 
@@ -74,10 +74,10 @@ module _ (at : Answers) (directory : List ℕ) where
   )
 
   -- the ids of one fan-out directory more
-  pub one_part : (kind : Kind) (bytes : List ℕ) (byte : ℕ) (names : List ℕ) (old new : List ObjectId) → names ≡ listed_in (directory ++ 47 ∷ hex_of byte) at
+  pub one_part : (kind : Kind) (bytes : List ℕ) (byte : ℕ) (names : List ℕ) (old new : List ObjectId) → names ≡ listed_in (directory ++ 47 ∷ byte_hex byte) at
       → AppendsLooseIds kind byte (split_names names) old new → AreLooseIn at kind bytes directory (map id_digits old) → AreLooseIn at kind (bytes ++ byte ∷ []) directory (map id_digits new)
   one_part kind bytes byte names old new are gets before digits =
-      let listed = split_names (listed_in (directory ++ 47 ∷ hex_of byte) at) in
+      let listed = split_names (listed_in (directory ++ 47 ∷ byte_hex byte) at) in
       let all = are_got kind byte listed old new (subst (λ (names : List ℕ). AppendsLooseIds kind byte (split_names names) old new) are gets) digits in (
         λ has. elim (all.0 has) [
           | inl there ↦ (let is = (before digits).0 there in (Contains-append_left bytes (byte ∷ []) (first_byte_of digits) is.0, is.1))

@@ -5,7 +5,7 @@ use Rattle.std.specs.List.{Contains, range_with_len}
 use Rattle.gix_hash.specs.Words.{AreIdDigits, first_byte_of, hex_letter, spelling}
 use Rattle.gix_hash.specs.declared.Kind.{Kind}
 use Rattle.repositories.specs.Answers.{Answers}
-use Rattle.repositories.specs.Stores.{hex_of}
+use Rattle.repositories.specs.Stores.{byte_hex}
 use Rattle.directory_store.specs.Packs.{names_in, split_names}
 use Rattle.directory_store.specs.declared.loose.FanOut.{FanOut}
 use Rattle.directory_store.specs.declared.loose.LooseDirectory.{LooseDirectory}
@@ -44,7 +44,7 @@ pub record AreLoose (at : Answers) (kind : Kind) (which : LooseIds) (paths : Lis
 
 -- the path of the fan-out directory of a first byte
 abbrev pub fan_out_in : ℕ → String Global → List ℕ
-fan_out_in byte directory = string_bytes directory ++ 47 ∷ hex_of byte
+fan_out_in byte directory = string_bytes directory ++ 47 ∷ byte_hex byte
 
 -- the paths of the fan-out directories that are asked for in some object directories
 abbrev pub fan_outs_in : LooseIds → List (String Global) → List (List ℕ)
@@ -60,4 +60,4 @@ ListsIfThere at fan_out = fan_out.is_missing ≡ true → listed_in (string_byte
 
 -- a part has the names for the object directory of this path, at a position
 abbrev pub HasNamesAt : Answers → ℕ → List ℕ → FanOutNames → Type 0
-HasNamesAt at index directory part = slice_index_or (map (λ names. names.items) part.names.items) index [] ≡ listed_in (directory ++ 47 ∷ hex_of part.byte) at
+HasNamesAt at index directory part = slice_index_or (map (λ names. names.items) part.names.items) index [] ≡ listed_in (directory ++ 47 ∷ byte_hex part.byte) at

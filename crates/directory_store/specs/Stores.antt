@@ -12,7 +12,7 @@ use Rattle.pack_index.specs.declared.lazy_error.LazyError.{LazyError}
 use Rattle.pack_index.specs.declared.lazy_error.LazyError.TheVariants.{Read}
 use Rattle.repositories.specs.Answers.{Answers}
 use Rattle.repositories.specs.States.{IsSettled}
-use Rattle.repositories.specs.Stores.{hex_of}
+use Rattle.repositories.specs.Stores.{byte_hex}
 use Rattle.repositories.specs.Walks.{IsStateOf, or_here}
 use Rattle.repositories.specs.declared.error.Error as repositories
 use Rattle.repositories.specs.declared.error.Error.TheVariants as repository_errors
@@ -42,7 +42,7 @@ IsIdText kind text id =
 
 -- the id of the loose object whose file has this name, in the directory of a first byte, if it is one's: the byte's digits and the name are the id
 abbrev pub IsLooseId : Kind → ℕ → List ℕ → Option ObjectId → Type 0
-IsLooseId kind byte name id = IsIdText kind (hex_of byte ++ name) id
+IsLooseId kind byte name id = IsIdText kind (byte_hex byte ++ name) id
 
 -- what a list gets of the files of these names, in the directory of a first byte: the id of each that is a loose object's, in the order of the names
 pub record AppendsLooseIds (kind : Kind) (byte : ℕ) (names : List (List ℕ)) (old new : List ObjectId) : Type 0 where

@@ -4,7 +4,7 @@ ghost use Rattle.std.specs.Prelude.{◌≡◌, ◌≢◌, ◌<◌, ◌++◌, ◌
 ghost use Rattle.std.specs.List.{range_with_len, slice_split};
 ghost use Rattle.gix_hash.specs.Words.{hex_letter, id_digits, id_kind};
 ghost use Rattle.repositories.specs.Answers.{Answers, IfKnown};
-ghost use Rattle.repositories.specs.Stores.{hex_of};
+ghost use Rattle.repositories.specs.Stores.{byte_hex};
 ghost use Rattle.directory_store.specs.Loose.{AreLoose, AreLooseIn, AreNamesIn, HasAllLoose, HasNamesAt, ListsIfThere, bytes_asked, fan_out_in, fan_outs_in, listed_in};
 ghost use Rattle.directory_store.specs.Stores.{AppendsLooseIds, AreAllOf, AreSettled, AreStatesOf, IsIdText, IsLooseId, path_in, paths_in};
 
@@ -375,7 +375,7 @@ fn all_bytes(alloc: Global) -> Result<Vec<u8>, AllocError>
 
 // The path of the fan-out directory of a first byte.
 fn fan_out(rt: &impl AllocGlobal, path: &str, byte: u8) -> Result<String, AllocError>
-    ensures { IfOk result (λ directory. string_bytes directory ≡ path.now ++ 47 ∷ hex_of byte) }
+    ensures { IfOk result (λ directory. string_bytes directory ≡ path.now ++ 47 ∷ byte_hex byte) }
 {
     format!(in rt.alloc(); "{path}/{byte:02x}")
 }

@@ -6,7 +6,7 @@
 #![tactic(auto)]
 
 #[cfg(test)]
-mod callers_names;
+mod callers_abbreviations;
 #[cfg(test)]
 mod changing;
 #[cfg(test)]

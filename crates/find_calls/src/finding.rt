@@ -3,7 +3,7 @@
 ghost use Rattle.std.specs.Prelude.{◌≡◌, ◌≢◌, ◌↔◌, ℕ, List, Result, true, false, IfOk, IfErr, IsErrOf};
 ghost use Rattle.gix_hash.specs.declared.Alphabet.{Alphabet};
 ghost use Rattle.find_calls.specs.Errors.{cause_of};
-ghost use Rattle.list_search.specs.Searches.{Fails, Finds, IsOfText, IsOwn, ResultHolds, Text, finding};
+ghost use Rattle.list_search.specs.Searches.{Fails, Succeeds, IsOfText, IsOwn, ResultHolds, Text, finding};
 ghost use Rattle.list_search.specs.declared.error.SearchError.{SearchError};
 ghost use Rattle.find_calls.specs.declared.finding.FindError.{FindError};
 ghost use Rattle.list_search.specs.declared.search.Search.{Search};
@@ -98,7 +98,7 @@ pub fn find<A: Allocator, W: Sink>(
     out: &mut W,
 ) -> Result<usize, FindError>
     requires { W.has_failed out.old ≡ false }
-    ensures found { IfOk result (Finds (Search.Sorted Alphabet.Hex) prefix.now
+    ensures found { IfOk result (Succeeds (Search.Sorted Alphabet.Hex) prefix.now
         (Text list.now) (W.taken out.old) (W.taken out.new)) }
     ensures stopped { IfErr result (λ e. Fails (Search.Sorted Alphabet.Hex) prefix.now
         (Text list.now) (cause_of e) (W.taken out.old) (W.taken out.new)) }
@@ -119,7 +119,7 @@ pub fn find_change<A: Allocator, W: Sink>(
     out: &mut W,
 ) -> Result<usize, FindError>
     requires { W.has_failed out.old ≡ false }
-    ensures found { IfOk result (Finds (Search.Sorted Alphabet.Reverse) letters.now
+    ensures found { IfOk result (Succeeds (Search.Sorted Alphabet.Reverse) letters.now
         (Text list.now) (W.taken out.old) (W.taken out.new)) }
     ensures stopped { IfErr result (λ e. Fails (Search.Sorted Alphabet.Reverse) letters.now
         (Text list.now) (cause_of e) (W.taken out.old) (W.taken out.new)) }

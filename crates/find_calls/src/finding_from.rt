@@ -3,7 +3,7 @@
 ghost use Rattle.std.specs.Prelude.{◌≡◌, ◌≢◌, ◌↔◌, true, false, IsErr, IfOk, IfErr, IsErrOf};
 ghost use Rattle.gix_hash.specs.declared.Alphabet.{Alphabet};
 ghost use Rattle.find_calls.specs.Errors.{cause_from};
-ghost use Rattle.list_search.specs.Searches.{Fails, Finds, From, IsOwn, prefix_for};
+ghost use Rattle.list_search.specs.Searches.{Fails, Succeeds, From, IsOwn, prefix_for};
 ghost use Rattle.find_calls.specs.declared.finding_from.FindFromError.{FindFromError};
 ghost use Rattle.list_search.specs.declared.search.Search.{Search};
 
@@ -107,7 +107,7 @@ pub fn find_from<A: Allocator, R: Source, W: Sink>(
 ) -> Result<usize, FindFromError>
     requires input { R.has_failed list.old ≡ false }
     requires output { W.has_failed out.old ≡ false }
-    ensures found { IfOk result (Finds (Search.Sorted Alphabet.Hex) prefix.now
+    ensures found { IfOk result (Succeeds (Search.Sorted Alphabet.Hex) prefix.now
         (From MAX_LEN (R.remaining list.old) (R.remaining list.new))
         (W.taken out.old) (W.taken out.new)) }
     ensures stopped { IfErr result (λ e. Fails (Search.Sorted Alphabet.Hex) prefix.now

@@ -3,7 +3,7 @@
 ghost use Rattle.std.specs.Prelude.{◌≡◌, ◌≢◌, ◌↔◌, ℕ, List, Result, true, false, IfOk, IfErr, IsErrOf};
 ghost use Rattle.gix_hash.specs.declared.Kind.{Kind};
 ghost use Rattle.find_calls.specs.Errors.{cause_in};
-ghost use Rattle.list_search.specs.Searches.{Fails, Finds, IsOfText, IsOwn, ResultHolds, Text, finding};
+ghost use Rattle.list_search.specs.Searches.{Fails, Succeeds, IsOfText, IsOwn, ResultHolds, Text, finding};
 ghost use Rattle.list_search.specs.declared.error.SearchError.{SearchError};
 ghost use Rattle.find_calls.specs.declared.finding_in.FindInError.{FindInError};
 ghost use Rattle.list_search.specs.declared.search.Search.{Search};
@@ -104,7 +104,7 @@ pub fn find_in<A: Allocator, W: Sink>(
     out: &mut W,
 ) -> Result<usize, FindInError>
     requires { W.has_failed out.old ≡ false }
-    ensures found { IfOk result (Finds (Search.In kind) prefix.now (Text list.now)
+    ensures found { IfOk result (Succeeds (Search.In kind) prefix.now (Text list.now)
         (W.taken out.old) (W.taken out.new)) }
     ensures stopped { IfErr result (λ e. Fails (Search.In kind) prefix.now (Text list.now)
         (cause_in e) (W.taken out.old) (W.taken out.new)) }

@@ -133,9 +133,9 @@ IsNoObject kind bytes at code =
     ((code ≡ OUT_OF_RANGE) × IsLaidOut kind bytes × (num_objects bytes ≤ at)) ⊎ IsTablesFault kind bytes code
 
 -- the id of the object at a position
-abbrev pub IdAnswer : Option Kind → List ℕ → ℕ → ℕ → Id → Id → Type 0
-IdAnswer None bytes at code old new = (code ≡ BAD_KIND) × (new ≡ old)
-IdAnswer (Some kind) bytes at code old new =
+abbrev pub IdAtAnswer : Option Kind → List ℕ → ℕ → ℕ → Id → Id → Type 0
+IdAtAnswer None bytes at code old new = (code ≡ BAD_KIND) × (new ≡ old)
+IdAtAnswer (Some kind) bytes at code old new =
     ((code ≡ OK) × IsLaidOut kind bytes × (at < num_objects bytes) × HoldsId (kind_digits kind (slice_index_or (ids_in kind bytes) at [])) new)
     ⊎ ((new ≡ old) × IsNoObject kind bytes at code)
 

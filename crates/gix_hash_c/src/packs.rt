@@ -5,7 +5,7 @@ ghost use Rattle.std.specs.Prelude.{◌≡◌, ◌<◌, ◌≤◌, [], IfErr, If
 ghost use Rattle.id_lookup.specs.Words.{IsShortestAbbreviation, IsSortedIds, hex_len_of, kind_digits};
 ghost use Rattle.pack_index.specs.Format.{HasHead, HasTables, crc_table_start, digests_in, ids_start};
 ghost use Rattle.gix_hash_c.specs.Face.{HoldsId, kind_of_number, prefix_in};
-ghost use Rattle.gix_hash_c.specs.LookUps.{CheckAnswer, EntryAnswer, IsTablesFault, LenAnswer, IdAnswer, PackFindAnswer, PackKindAnswer, ShortestAnswer, cause_number, detail_of};
+ghost use Rattle.gix_hash_c.specs.LookUps.{CheckAnswer, EntryAnswer, IsTablesFault, LenAnswer, IdAtAnswer, PackFindAnswer, PackKindAnswer, ShortestAnswer, cause_number, detail_of};
 
 use crate::codes::{
     BAD_KIND, BAD_LENGTH, BAD_MAGIC, BAD_VERSION, INDEX_TOO_SHORT, LONG_OUT_OF_ORDER, NAMES_FALL,
@@ -120,7 +120,7 @@ pub extern "C" fn gix_hash_pack_entry(kind: u32, bytes: &[u8], at: usize, entry:
 /// The id of the object at a position. An error leaves `id` as it was.
 #[unsafe(no_mangle)]
 pub extern "C" fn gix_hash_pack_id(kind: u32, bytes: &[u8], at: usize, id: &mut Id) -> u32
-    ensures { IdAnswer (kind_of_number kind) bytes.now at result id.old id.new }
+    ensures { IdAtAnswer (kind_of_number kind) bytes.now at result id.old id.new }
 {
     let Some(kind) = kind_of(kind) else {
         return BAD_KIND;
@@ -284,18 +284,18 @@ fn shortest_at(kind: Kind, table: &[u8], at: usize) -> Option<usize>
     requires { at < length (digests_in kind table.now) }
     ensures long { IfSome result (λ hex_len. 4 ≤ hex_len) }
     ensures in_range { IfSome result (λ hex_len. hex_len ≤ hex_len_of kind) }
-    ensures name { IfSome result (λ hex_len. IsSortedIds (digests_in kind table.now)
+    ensures abbreviation { IfSome result (λ hex_len. IsSortedIds (digests_in kind table.now)
         → IsShortestAbbreviation (digests_in kind table.now) at
         (take hex_len (slice_index_or (digests_in kind table.now) at []))) }
     ensures none { IsNone result → IsSortedIds (digests_in kind table.now)
-        → (name : List ℕ) → ¬ IsShortestAbbreviation (digests_in kind table.now) at name }
+        → (prefix : List ℕ) → ¬ IsShortestAbbreviation (digests_in kind table.now) at prefix }
 {
-    let name = match kind {
+    let abbreviation = match kind {
         Kind::Sha1 => abbreviate_assuming_sorted::<[u8; 20]>(table.as_chunks().0, at),
         Kind::Sha256 => abbreviate_assuming_sorted::<[u8; 32]>(table.as_chunks().0, at),
     };
-    match name {
-        Some(name) => Some(name.hex_len()),
+    match abbreviation {
+        Some(abbreviation) => Some(abbreviation.hex_len()),
         None => None,
     }
 }

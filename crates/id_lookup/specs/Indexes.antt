@@ -65,16 +65,16 @@ part_of byte ids = filter (has_first_byte byte) ids
 
 -- Abbreviations of the ids of a list, their shortest unique prefixes. Each id is given by its digits.
 
--- the name is the shortest prefix of the id at `at`, of at least `fewest` digits, that no other id begins with
-pub record IsShortestAbbreviationFrom (fewest : ℕ) (ids : List (List ℕ)) (at : ℕ) (name : List ℕ) : Type 0 where
-  pub first : name ≡ take (length name) (slice_index_or ids at [])
-  pub long : fewest ≤ length name
-  pub alone : (k : ℕ) → k < length ids → k ≢ at → starts_with nat_eq (slice_index_or ids k []) name ≡ false
-  pub least : (n : ℕ) → fewest ≤ n → n < length name → (k : ℕ) × (k < length ids) × (k ≢ at) × (starts_with nat_eq (slice_index_or ids k []) (take n name) ≡ true)
+-- this is the shortest prefix of the id at `at`, of at least `fewest` digits, that no other id begins with
+pub record IsShortestAbbreviationFrom (fewest : ℕ) (ids : List (List ℕ)) (at : ℕ) (prefix : List ℕ) : Type 0 where
+  pub first : prefix ≡ take (length prefix) (slice_index_or ids at [])
+  pub long : fewest ≤ length prefix
+  pub alone : (k : ℕ) → k < length ids → k ≢ at → starts_with nat_eq (slice_index_or ids k []) prefix ≡ false
+  pub least : (n : ℕ) → fewest ≤ n → n < length prefix → (k : ℕ) × (k < length ids) × (k ≢ at) × (starts_with nat_eq (slice_index_or ids k []) (take n prefix) ≡ true)
 
 -- the same, of at least four digits
 abbrev pub IsShortestAbbreviation : List (List ℕ) → ℕ → List ℕ → Type 0
-IsShortestAbbreviation ids at name = IsShortestAbbreviationFrom 4 ids at name
+IsShortestAbbreviation ids at prefix = IsShortestAbbreviationFrom 4 ids at prefix
 
 -- how many first digits two ids have in common
 abbrev pub common_at : List (List ℕ) → ℕ → ℕ → ℕ

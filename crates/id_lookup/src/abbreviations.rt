@@ -15,15 +15,15 @@ use gix_hash::Prefix;
 pub(crate) fn shortest_abbreviation<I: Id>(ids: &[I], at: usize, least: usize) -> Option<Prefix>
     requires in_range { at < length ids.now }
     requires enough { 4 ≤ least }
-    ensures kind { IfSome result (λ name. hex_len_of name.kind
+    ensures kind { IfSome result (λ prefix. hex_len_of prefix.kind
         ≡ length (slice_index_or (map I.digits ids.now) at [])) }
-    ensures first { IfSome result (λ name. name.digits
-        ≡ take (length name.digits) (slice_index_or (map I.digits ids.now) at [])) }
-    ensures long { IfSome result (λ name. least ≤ length name.digits) }
-    ensures name { IfSome result (λ name. IsSortedIds (map I.digits ids.now)
-        → IsShortestAbbreviationFrom least (map I.digits ids.now) at name.digits) }
-    ensures none { IsNone result → IsSortedIds (map I.digits ids.now) → (name : List ℕ)
-        → ¬ IsShortestAbbreviationFrom least (map I.digits ids.now) at name }
+    ensures first { IfSome result (λ prefix. prefix.digits
+        ≡ take (length prefix.digits) (slice_index_or (map I.digits ids.now) at [])) }
+    ensures long { IfSome result (λ prefix. least ≤ length prefix.digits) }
+    ensures abbreviation { IfSome result (λ prefix. IsSortedIds (map I.digits ids.now)
+        → IsShortestAbbreviationFrom least (map I.digits ids.now) at prefix.digits) }
+    ensures none { IsNone result → IsSortedIds (map I.digits ids.now) → (prefix : List ℕ)
+        → ¬ IsShortestAbbreviationFrom least (map I.digits ids.now) at prefix }
     ensures lacks { IsNone result → IsSortedIds (map I.digits ids.now)
         → (len : ℕ) × IsUniqueLen (map I.digits ids.now) at len
         × (length (slice_index_or (map I.digits ids.now) at []) < max len least) }

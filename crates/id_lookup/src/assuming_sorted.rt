@@ -181,19 +181,19 @@ fn bound_assuming_sorted<I: Id>(
 /// list is not sorted, it is some prefix of the member, of at least 4 digits.
 ///
 /// ```
-/// let name = abbreviate_assuming_sorted(list, 0);
+/// let abbreviation = abbreviate_assuming_sorted(list, 0);
 /// ```
 pub fn abbreviate_assuming_sorted<I: Id>(ids: &[I], at: usize) -> Option<Prefix>
     requires { at < length ids.now }
-    ensures kind { IfSome result (λ name. hex_len_of name.kind
+    ensures kind { IfSome result (λ prefix. hex_len_of prefix.kind
         ≡ length (slice_index_or (map I.digits ids.now) at [])) }
-    ensures first { IfSome result (λ name. name.digits
-        ≡ take (length name.digits) (slice_index_or (map I.digits ids.now) at [])) }
-    ensures long { IfSome result (λ name. 4 ≤ length name.digits) }
-    ensures name { IfSome result (λ name. IsSortedIds (map I.digits ids.now)
-        → IsShortestAbbreviation (map I.digits ids.now) at name.digits) }
-    ensures none { IsNone result → IsSortedIds (map I.digits ids.now) → (name : List ℕ)
-        → ¬ IsShortestAbbreviation (map I.digits ids.now) at name }
+    ensures first { IfSome result (λ prefix. prefix.digits
+        ≡ take (length prefix.digits) (slice_index_or (map I.digits ids.now) at [])) }
+    ensures long { IfSome result (λ prefix. 4 ≤ length prefix.digits) }
+    ensures abbreviation { IfSome result (λ prefix. IsSortedIds (map I.digits ids.now)
+        → IsShortestAbbreviation (map I.digits ids.now) at prefix.digits) }
+    ensures none { IsNone result → IsSortedIds (map I.digits ids.now) → (prefix : List ℕ)
+        → ¬ IsShortestAbbreviation (map I.digits ids.now) at prefix }
 {
     shortest_abbreviation(ids, at, Prefix::MIN_HEX_LEN)
 }

@@ -165,7 +165,7 @@ impl<'a, I: Id> IdIndex<'a, I> {
     pub fn abbreviate(&self, at: usize) -> Prefix
         requires { at < length self.now.ids }
         ensures kind { result.kind ≡ self.now.kind }
-        ensures name { IsShortestAbbreviation self.now.ids at result.digits }
+        ensures abbreviation { IsShortestAbbreviation self.now.ids at result.digits }
         ensures run { IsRun result self.now.ids (record { start = at; end = at + 1 }) }
     {
         self.abbreviate_from(at, Prefix::MIN_HEX_LEN)
@@ -179,7 +179,7 @@ impl<'a, I: Id> IdIndex<'a, I> {
         requires enough { 4 ≤ least }
         requires fits { least ≤ hex_len_of self.now.kind }
         ensures kind { result.kind ≡ self.now.kind }
-        ensures name { IsShortestAbbreviationFrom least self.now.ids at result.digits }
+        ensures abbreviation { IsShortestAbbreviationFrom least self.now.ids at result.digits }
         ensures run { IsRun result self.now.ids (record { start = at; end = at + 1 }) }
     {
         abbreviate_in(self.ids, self.kind, at, least)
@@ -206,7 +206,8 @@ pub fn abbreviate_in<I: Id>(ids: &[I], kind: Kind, at: usize, least: usize) -> P
     requires enough { 4 ≤ least }
     requires fits { least ≤ hex_len_of kind }
     ensures kind { result.kind ≡ kind }
-    ensures name { IsShortestAbbreviationFrom least (map I.digits ids.now) at result.digits }
+    ensures abbreviation { IsShortestAbbreviationFrom least (map I.digits ids.now) at
+        result.digits }
 {
     shortest_abbreviation(ids, at, least).unwrap()
 }

@@ -23,7 +23,7 @@ pub fn beginnings(prefix: &Prefix)
 {}
 
 /// An index finds only the member at a position by the abbreviation of that member.
-pub fn find_own_name<I: Id>(index: &IdIndex<'_, I>, at: usize) -> Answer
+pub fn find_own_abbreviation<I: Id>(index: &IdIndex<'_, I>, at: usize) -> Answer
     requires { at < length index.now.ids }
     ensures { result ≡ Answer.One at }
 {

@@ -21,15 +21,15 @@ pub fn parts()
         → matches digits (part_of (first_byte_of digits) ids) ≡ matches digits ids }
     ensures two { (kind : kinds.Kind) (byte : ℕ) (ids : List (List ℕ)) → All (AreIdDigits kind) ids
         → part_of byte ids ≡ matches (byte / 16 ∷ byte % 16 ∷ []) ids }
-    ensures names { (kind : kinds.Kind) (p : List ℕ → Bool) (least : ℕ) (whole : List (List ℕ))
-        (at position : ℕ) (name : List ℕ) → IsIndex kind whole
+    ensures abbreviations { (kind : kinds.Kind) (p : List ℕ → Bool) (least : ℕ)
+        (whole : List (List ℕ)) (at position : ℕ) (prefix : List ℕ) → IsIndex kind whole
         → ((id : List ℕ)
         → starts_with nat_eq id (take least (slice_index_or whole position [])) ≡ true
         → p id ≡ true)
         → at < length (filter p whole) → position < length whole
         → slice_index_or whole position [] ≡ slice_index_or (filter p whole) at []
-        → IsShortestAbbreviationFrom least (filter p whole) at name
-        → IsShortestAbbreviationFrom least whole position name }
+        → IsShortestAbbreviationFrom least (filter p whole) at prefix
+        → IsShortestAbbreviationFrom least whole position prefix }
 {}
 
 /// In a sorted list the ids with a first byte are a run, and the parts one after the other are the

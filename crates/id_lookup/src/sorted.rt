@@ -130,14 +130,14 @@ impl<'a, I: Id> SortedIds<'a, I> {
     pub fn abbreviate_from(&self, at: usize, least: usize) -> Option<Prefix>
         requires in_range { at < length self.now }
         requires enough { 4 ≤ least }
-        ensures kind { IfSome result (λ name. hex_len_of name.kind
+        ensures kind { IfSome result (λ prefix. hex_len_of prefix.kind
             ≡ length (slice_index_or self.now at [])) }
-        ensures name { IfSome result (λ name. IsShortestAbbreviationFrom least self.now at
-            name.digits) }
-        ensures run { IfSome result (λ name. IsRun name self.now
+        ensures abbreviation { IfSome result (λ prefix. IsShortestAbbreviationFrom least self.now at
+            prefix.digits) }
+        ensures run { IfSome result (λ prefix. IsRun prefix self.now
             (record { start = at; end = at + 1 })) }
-        ensures none { IsNone result → (name : List ℕ)
-            → ¬ IsShortestAbbreviationFrom least self.now at name }
+        ensures none { IsNone result → (prefix : List ℕ)
+            → ¬ IsShortestAbbreviationFrom least self.now at prefix }
     {
         shortest_abbreviation(self.ids, at, least)
     }

@@ -4,7 +4,7 @@ use crate::expecting::{expect, expect_text};
 use crate::id_lookup_search::{prefix_of, thousand};
 use crate::well_known::{BLOB_256_ID, BLOB_ID, TREE_256_ID, TREE_ID, id};
 use gix_hash::{Kind, ObjectId, Prefix};
-use id_lookup::laws::find_own_name;
+use id_lookup::laws::find_own_abbreviation;
 use id_lookup::{Answer, Id, IdIndex, Run, lookup_in};
 use std::process::Abort;
 
@@ -114,7 +114,7 @@ fn expect_name(rt: &(impl Abort + AllocGlobal), index: &IdIndex<'_>, at: usize, 
     let name = index.abbreviate(at);
     expect_text(rt, name, want);
     let read = Prefix::from_hex_in(index.kind(), want).expect(rt, "a name that is no prefix");
-    expect!(rt; (read, find_own_name(index, at)) == (name, Answer::One(at)), want);
+    expect!(rt; (read, find_own_abbreviation(index, at)) == (name, Answer::One(at)), want);
 }
 
 fn expect_names(rt: &(impl Abort + AllocGlobal), ids: &[ObjectId], names: &[&str]) {

@@ -1,7 +1,7 @@
 -- The bytes of a source that a search has taken, read by read, and where the search stops: where the reading does, or at the end of what it is given.
 use Rattle.gix_hash.proofs.Std.{◌≡◌, ◌||◌, Bool, false, ℕ, ◌+◌, ◌<◌, ◌≤◌, inl, inr, Option, List, [], ◌++◌, length, take, drop, refl, sym, ap, ◌∙◌, subst, arith, append_assoc, length-append, take-append-drop, append-nil, ◌≢◌, ◌↔◌, true, map, Result, Ok, Err, IfOk, IfErr, IsErrAnd, IsErrOf, IsOk, OnOk, take-take, length-map, Consumes-trans, Consumes-kept, Consumes, Keeps, IsAtEnd, Appends, take-append_seam, false≢true}
 use Rattle.id_lookup.specs.Words.{KindDigits, ObjectId, id_digits}
-use Rattle.list_search.specs.Searches.{HoldsOfAll, IsSettled, GivesGoodLines, GivesTooMuch, Fails, Finds, FoundHolds, From, Searched, IsOwn, OfAll, Stops, found_among, found_in_list, found_texts, letter_for, prefix_for}
+use Rattle.list_search.specs.Searches.{HoldsOfAll, SettlesAll, GivesGoodLines, GivesTooMuch, Fails, Succeeds, FoundHolds, From, Searched, IsOwn, OfAll, Stops, found_among, found_in_list, found_texts, letter_for, prefix_for}
 use Rattle.list_search.specs.Lists.{NoBadLineEnded, list_read, IsListRefusal}
 use Rattle.list_search.specs.SearchStates.{HasSearched, HasTaken}
 use Rattle.list_search.specs.declared.finder.Finder.{Finder}
@@ -53,7 +53,7 @@ module _ {A : Type 0} {search : Search} {digits : List ℕ} {reader : ListReader
     given = subst (Consumes old new) (sym (append_assoc t.text chunk rest)) (Consumes-trans old now new t.text (chunk ++ rest) t.gives gives)
 
     -- that settles the error, whatever follows
-    pub settled : (Holds : List ℕ → Type 0) → ((more : List ℕ) → Holds (t.text ++ (chunk ++ more))) → IsSettled Holds most old new
+    pub settled : (Holds : List ℕ → Type 0) → ((more : List ℕ) → Holds (t.text ++ (chunk ++ more))) → SettlesAll Holds most old new
     settled Holds holds = record {
       text = t.text ++ chunk;
       rest = rest;
@@ -93,7 +93,7 @@ pub all_map : {P Q : List ℕ → Type 0} {most : ℕ} {old new : Option (List �
 all_map all follows = record { text = all.text; gives = all.gives; at_end = all.at_end; short = all.short; holds = follows all.text all.holds }
 
 -- and it is settled
-pub settled_of_all : {P : List ℕ → Type 0} {most : ℕ} {old new : Option (List ℕ)} → HoldsOfAll P most old new → IsSettled P most old new
+pub settled_of_all : {P : List ℕ → Type 0} {most : ℕ} {old new : Option (List ℕ)} → HoldsOfAll P most old new → SettlesAll P most old new
 settled_of_all {old = old} {new = new} all = record {
   text = all.text;
   rest = [];
@@ -103,7 +103,7 @@ settled_of_all {old = old} {new = new} all = record {
 }
 
 -- what follows from what is settled is settled
-settled_map : {P Q : List ℕ → Type 0} {most : ℕ} {old new : Option (List ℕ)} → IsSettled P most old new → ((text : List ℕ) → P text → Q text) → IsSettled Q most old new
+settled_map : {P Q : List ℕ → Type 0} {most : ℕ} {old new : Option (List ℕ)} → SettlesAll P most old new → ((text : List ℕ) → P text → Q text) → SettlesAll Q most old new
 settled_map settled follows = record {
   text = settled.text;
   rest = settled.rest;
@@ -117,7 +117,7 @@ settled_map settled follows = record {
 
 -- an error of the list text stops the search, and is none of a read
 refused_stops : (search : Search) (digits : List ℕ) (most : ℕ) (old new : Option (List ℕ)) (error : SearchError)
-    → IsSettled (λ text. IsListRefusal text error) most old new
+    → SettlesAll (λ text. IsListRefusal text error) most old new
     → Stops (λ text. found_in_list search digits (list_read text)) (From most old new) error × (error ≢ Input)
 refused_stops search digits most old new (BadLine n error) stops = (settled_map stops (λ text refused. rw refused refl), λ is. cc is)
 refused_stops search digits most old new Memory stops = (stops, λ is. cc is)
@@ -143,12 +143,12 @@ error_exit view search digits given failed error stands s = (tt, tt, s.0, (λ in
 
 -- with an error of the list text
 pub refused_exit : {V : Type 0} (found : Result V SearchError) (view : V → List (List ℕ)) (search : Search) (digits : List ℕ) (most : ℕ) (old new : Option (List ℕ)) (failed : Bool)
-    (error : SearchError) → IsErrAnd found (λ e. e ≡ error) → failed ≡ false → IsSettled (λ text. IsListRefusal text error) most old new
+    (error : SearchError) → IsErrAnd found (λ e. e ≡ error) → failed ≡ false → SettlesAll (λ text. IsListRefusal text error) most old new
     → IsExit found view search digits (From most old new) failed
 refused_exit (Ok v) view search digits most old new failed error is stands stops = absurd is
 refused_exit (Err e) view search digits most old new failed error is stands stops =
     error_exit view search digits (From most old new) failed e stands
-    (refused_stops search digits most old new e (subst (λ e. IsSettled (λ text. IsListRefusal text e) most old new) (sym is) stops))
+    (refused_stops search digits most old new e (subst (λ e. SettlesAll (λ text. IsListRefusal text e) most old new) (sym is) stops))
 
 -- with what a finder says at the end
 pub end_exit : {V : Type 0} (found : Result V SearchError) (view : V → List (List ℕ)) (search : Search) (digits : List ℕ) (most : ℕ) (old new : Option (List ℕ)) (failed : Bool)
@@ -196,7 +196,7 @@ module _ (search : Search) (prefix : List ℕ) (start : KindDigits) (reads : pre
 
   pub search_finds : (items : List ObjectId) (count : ℕ)
       → HoldsOfAll (λ text. found_in_list query.search query.prefix.digits (list_read text) ≡ Ok (map id_digits items)) most old new
-      → Appends sink sink' (printed (letter_for search) (map id_digits items)) → count ≡ length items → Finds search prefix (From most old new) sink sink' count
+      → Appends sink sink' (printed (letter_for search) (map id_digits items)) → count ≡ length items → Succeeds search prefix (From most old new) sink sink' count
   search_finds items count all written counted = all_map all (λ text found. record {
     ids = map id_digits items;
     found = rw (reads, ← same, ← same_prefix) found;

@@ -108,7 +108,7 @@ pub data Searched : Type 0 where
   From : ℕ → Option (List ℕ) → Option (List ℕ) → Searched
 
 -- the bytes that were read settle a statement on all bytes of a source: it holds of the first, at most `most`, whatever follows them, or the source is at its end and it holds of all
-pub record IsSettled (Holds : List ℕ → Type 0) (most : ℕ) (old new : Option (List ℕ)) : Type 0 where
+pub record SettlesAll (Holds : List ℕ → Type 0) (most : ℕ) (old new : Option (List ℕ)) : Type 0 where
   pub text : List ℕ
   pub rest : List ℕ
   pub gives : Consumes old new (text ++ rest)
@@ -140,7 +140,7 @@ pub record GivesTooMuch (most : ℕ) (old new : Option (List ℕ)) : Type 0 wher
 -- a statement on the text is settled
 abbrev pub Settles : Searched → (List ℕ → Type 0) → Type 0
 Settles (Text text) Holds = Holds text
-Settles (From most old new) Holds = IsSettled Holds most old new
+Settles (From most old new) Holds = SettlesAll Holds most old new
 
 -- it holds of all of the text
 abbrev pub OfAll : Searched → (List ℕ → Type 0) → Type 0
@@ -148,9 +148,9 @@ OfAll (Text text) Holds = Holds text
 OfAll (From most old new) Holds = HoldsOfAll Holds most old new
 
 -- a read failed
-abbrev pub IsUnread : Searched → Type 0
-IsUnread (Text text) = ⊥
-IsUnread (From most old new) = GivesGoodLines most old new
+abbrev pub FailsToRead : Searched → Type 0
+FailsToRead (Text text) = ⊥
+FailsToRead (From most old new) = GivesGoodLines most old new
 
 -- there is too much
 abbrev pub IsTooMuch : Searched → Type 0
@@ -164,31 +164,31 @@ Stops answer given (Prefix error) = ⊥
 Stops answer given (BadLine n error) = Settles given (λ text. answer text ≡ Err (BadLine n error))
 Stops answer given Memory = Settles given (λ text. IsFirstRead (lines_of text))
 Stops answer given Output = ⊥
-Stops answer given Input = IsUnread given
+Stops answer given Input = FailsToRead given
 Stops answer given TooMuch = IsTooMuch given
 Stops answer given error = OfAll given (λ text. answer text ≡ Err error)
 
 -- the result is ids, of whose lines a proper beginning was written
-pub record IsFoundInPart (letter : ℕ → ℕ) (answer : Result (List (List ℕ)) SearchError) (old new : Option (List ℕ)) : Type 0 where
+pub record IsWrittenInPart (letter : ℕ → ℕ) (answer : Result (List (List ℕ)) SearchError) (old new : Option (List ℕ)) : Type 0 where
   pub ids : List (List ℕ)
   pub found : answer ≡ Ok ids
   pub written : AppendsBeginning old new (printed letter ids)
 
 -- the result is ids, whose number was returned and whose lines were written
-pub record IsFound (letter : ℕ → ℕ) (answer : Result (List (List ℕ)) SearchError) (old new : Option (List ℕ)) (count : ℕ) : Type 0 where
+pub record IsWritten (letter : ℕ → ℕ) (answer : Result (List (List ℕ)) SearchError) (old new : Option (List ℕ)) (count : ℕ) : Type 0 where
   pub ids : List (List ℕ)
   pub found : answer ≡ Ok ids
   pub counted : count ≡ length ids
   pub written : Appends old new (printed letter ids)
 
 -- what a search has found and written that returns a number
-abbrev pub Finds : Search → List ℕ → Searched → Option (List ℕ) → Option (List ℕ) → ℕ → Type 0
-Finds search prefix given sink sink' count = OfAll given (λ text. IsFound (letter_for search) (finding search prefix text) sink sink' count)
+abbrev pub Succeeds : Search → List ℕ → Searched → Option (List ℕ) → Option (List ℕ) → ℕ → Type 0
+Succeeds search prefix given sink sink' count = OfAll given (λ text. IsWritten (letter_for search) (finding search prefix text) sink sink' count)
 
 -- where a search stops that fails, and what it has written
 abbrev pub Fails : Search → List ℕ → Searched → SearchError → Option (List ℕ) → Option (List ℕ) → Type 0
 Fails search prefix given (Prefix error) sink sink' = prefix_for search prefix ≡ Err error
-Fails search prefix given Output sink sink' = OfAll given (λ text. IsFoundInPart (letter_for search) (finding search prefix text) sink sink')
+Fails search prefix given Output sink sink' = OfAll given (λ text. IsWrittenInPart (letter_for search) (finding search prefix text) sink sink')
 Fails search prefix given error sink sink' = IsOk (prefix_for search prefix) × Stops (finding search prefix) given error
 
 -- the error is none of the other order

@@ -2,7 +2,7 @@
 
 ghost use Rattle.std.specs.Prelude.{◌≡◌, ◌≢◌, ◌↔◌, ◌^◌, ◌<◌, false, true, IsErr, IfOk, IfErr, IsErrOf};
 ghost use Rattle.id_lookup.specs.Words.{letter_of};
-ghost use Rattle.list_search.specs.Searches.{Fails, Finds, From, IsFor, IsOwn, letter_for, prefix_for};
+ghost use Rattle.list_search.specs.Searches.{Fails, Succeeds, From, IsFor, IsOwn, letter_for, prefix_for};
 
 use crate::error::SearchError;
 use crate::query::Query;
@@ -79,7 +79,7 @@ pub fn search_from<A: Allocator, R: Source, W: Sink>(
     requires most { most < 2 ^ 63 }
     requires input { R.has_failed list.old ≡ false }
     requires output { W.has_failed out.old ≡ false }
-    ensures found { IfOk result (Finds search prefix.now
+    ensures found { IfOk result (Succeeds search prefix.now
         (From most (R.remaining list.old) (R.remaining list.new))
         (W.taken out.old) (W.taken out.new)) }
     ensures stopped { IfErr result (λ e. Fails search prefix.now

@@ -53,7 +53,7 @@ fn abbreviated_at(ids: &[ObjectId], kind: Kind, at: usize, least: usize) -> Abbr
     requires enough { 4 ≤ least }
     requires fits { least ≤ hex_len_of kind }
     ensures id { slice_get ids.now at ≡ Some result.id }
-    ensures name { IsShortestAbbreviationFrom least (map id_digits ids.now) at
+    ensures abbreviation { IsShortestAbbreviationFrom least (map id_digits ids.now) at
         result.abbreviation.digits }
     ensures kind { IsOfKind kind result }
 {

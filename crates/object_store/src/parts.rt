@@ -177,7 +177,7 @@ impl<'s, S: Store, A: Allocator + Copy> Parts<'s, S, A> {
         requires enough { 4 ≤ least }
         requires fits { least ≤ hex_len_of (S.view self.old.now).kind }
         ensures store { self.new ≡ self.old }
-        ensures name { IfOk result (IsAbbreviationOf least (S.view self.old.now)
+        ensures abbreviation { IfOk result (IsAbbreviationOf least (S.view self.old.now)
             (id_digits id.now)) }
         ensures err { IfErr result (IsStoreFault (S.view self.old.now)
             (first_byte_of (id_digits id.now))) }
@@ -206,7 +206,7 @@ impl<'s, S: Store, A: Allocator + Copy> Parts<'s, S, A> {
         requires enough { 4 ≤ least }
         requires fits { least ≤ hex_len_of (S.view self.old.now).kind }
         ensures store { self.new ≡ self.old }
-        ensures name { IfOk result (IsAbbreviated least (S.view self.old.now)
+        ensures abbreviation { IfOk result (IsAbbreviated least (S.view self.old.now)
             prefix.now.digits) }
         ensures err { IfErr result (IsStoreFault (S.view self.old.now)
             (first_byte_of prefix.now.digits)) }

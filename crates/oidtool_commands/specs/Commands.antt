@@ -6,7 +6,7 @@ use Rattle.id_lookup.specs.Words.{Hex, Kind, Reverse, sealed}
 use Rattle.streams.specs.Streams.{AppendsBeginning, HasReadAll, HasReadTooMuch, HashingFails, SealingFails, digest_line, max_len}
 use Rattle.streams.specs.declared.PipeError.{PipeError}
 use Rattle.streams.specs.declared.PipeError.TheVariants as pipe
-use Rattle.list_search.specs.Searches.{Fails, Finds, From}
+use Rattle.list_search.specs.Searches.{Fails, Succeeds, From}
 use Rattle.oidtool_commands.specs.declared.command.Command.{Command}
 use Rattle.oidtool_commands.specs.declared.command.Command.TheVariants.{Find, FindChange, FindIn, Hash, HashFile, Seal}
 use Rattle.oidtool_commands.specs.declared.error.CommandError.{CommandError}
@@ -64,9 +64,9 @@ HashFileFails kind len old new e =
 
 -- what a command has done that returns a number
 abbrev pub Does : Command → Option (List ℕ) → Option (List ℕ) → Option (List ℕ) → Option (List ℕ) → ℕ → Type 0
-Does (Find prefix) input input' old new count = Finds (Sorted Hex) prefix.now (From max_len input input') old new count
-Does (FindChange letters) input input' old new count = Finds (Sorted Reverse) letters.now (From max_len input input') old new count
-Does (FindIn kind prefix) input input' old new count = Finds (In kind) prefix.now (From max_len input input') old new count
+Does (Find prefix) input input' old new count = Succeeds (Sorted Hex) prefix.now (From max_len input input') old new count
+Does (FindChange letters) input input' old new count = Succeeds (Sorted Reverse) letters.now (From max_len input input') old new count
+Does (FindIn kind prefix) input input' old new count = Succeeds (In kind) prefix.now (From max_len input input') old new count
 Does (Hash kind) input input' old new count = Writes (digest_line kind) input input' old new × (count ≡ 1)
 Does (HashFile kind len path) input input' old new count = WritesOfFile kind len old new × (count ≡ 1)
 Does (Seal kind) input input' old new count = Writes (sealed kind) input input' old new × (count ≡ 1)

@@ -3,7 +3,7 @@
 ghost use Rattle.std.specs.Prelude.{◌≡◌, ◌≢◌, ◌↔◌, true, false, IfOk, IfErr, OnOk, IsErrOf};
 ghost use Rattle.oidtool_commands.specs.Commands.{IsDrained, SearchToEndFails};
 ghost use Rattle.oidtool_commands.specs.declared.error.CommandError.{CommandError};
-ghost use Rattle.list_search.specs.Searches.{Finds, From};
+ghost use Rattle.list_search.specs.Searches.{Succeeds, From};
 
 use crate::error::CommandError;
 use list_search::{Search, SearchError, search_from};
@@ -21,7 +21,7 @@ pub fn search_to_end<A: Allocator, R: Source, W: Sink>(
 ) -> Result<usize, CommandError>
     requires input { R.has_failed input.old ≡ false }
     requires output { W.has_failed out.old ≡ false }
-    ensures done { IfOk result (Finds search prefix.now
+    ensures done { IfOk result (Succeeds search prefix.now
         (From MAX_LEN (R.remaining input.old) (R.remaining input.new))
         (W.taken out.old) (W.taken out.new)) }
     ensures failed { IfErr result (SearchToEndFails search prefix.now

@@ -60,7 +60,7 @@ impl<'a> SortedDigests<'a> {
         requires { at < length (list_of self.now) }
         ensures kind { IfSome result (λ short. hex_len_of short.kind
             ≡ length (slice_index_or (list_of self.now) at [])) }
-        ensures name { IfSome result (λ short. IsShortestAbbreviation (list_of self.now) at
+        ensures abbreviation { IfSome result (λ short. IsShortestAbbreviation (list_of self.now) at
             short.digits) }
         ensures run { IfSome result (λ short. IsRun short (list_of self.now)
             (record { start = at; end = at + 1 })) }

@@ -211,7 +211,7 @@ impl<'a> File<'a> {
     pub fn abbreviate(&self, at: usize) -> Option<Prefix>
         requires { at < length (ids_in self.now.kind self.now.bytes) }
         ensures kind { IfSome result (λ short. short.kind ≡ self.now.kind) }
-        ensures name { IfSome result (λ short. IsShortestAbbreviation
+        ensures abbreviation { IfSome result (λ short. IsShortestAbbreviation
             (ids_in self.now.kind self.now.bytes) at short.digits) }
         ensures run { IfSome result (λ short. IsRun short (ids_in self.now.kind self.now.bytes)
             (record { start = at; end = at + 1 })) }

@@ -235,7 +235,7 @@ impl<S: ReadAt + Drop> LazyFile<S> {
     pub fn lookup<A: Allocator>(&self, bucket: &Bucket<A>, id: oid<'_>) -> Option<u32>
         requires { IsPartOf (seen self.now) (oid_digits id) bucket.now }
         ensures in_range { IfSome result (λ at. at < self.now.count) }
-        ensures name { IfSome result (λ at. ForSome (seen self.now).tables (λ tables.
+        ensures id { IfSome result (λ at. ForSome (seen self.now).tables (λ tables.
             slice_index_or tables.ids at [] ≡ oid_digits id.entry)) }
         ensures found { ForSome (seen self.now).tables (λ tables. HaveRightCounts tables
             → MatchOption result ((k : ℕ) → k < length tables.ids

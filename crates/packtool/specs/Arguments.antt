@@ -13,12 +13,12 @@ use Rattle.packtool.specs.declared.arguments.Request.TheVariants as requests
 use Rattle.packtool_commands.specs.declared.printing.Wanted.TheVariants as wanted
 
 -- the name of the command that does something
-abbrev pub name_of : Action → List ℕ
-name_of (actions.Store Find) = codes "find"
-name_of (actions.Store Locate) = codes "locate"
-name_of (actions.Store Abbreviate) = codes "abbreviate"
-name_of (actions.Files Show) = codes "show"
-name_of (actions.Files Check) = codes "check"
+abbrev pub command_name : Action → List ℕ
+command_name (actions.Store Find) = codes "find"
+command_name (actions.Store Locate) = codes "locate"
+command_name (actions.Store Abbreviate) = codes "abbreviate"
+command_name (actions.Files Show) = codes "show"
+command_name (actions.Files Check) = codes "check"
 
 -- what the command of a request does
 abbrev pub action_in : Request → Action

@@ -40,15 +40,15 @@ IsVerdictOn kind bytes Alone = (file : IndexFile) × IsOpenedAs kind bytes file
 IsVerdictOn kind bytes (Paired pairing) = (file : IndexFile) × IsOpenedAs kind bytes file
 
 -- how bytes end: for the kind that is given or, if none is, for the kind whose digest they end with
-abbrev pub IsEnding : Option Kind → List ℕ → Ending → Type 0
-IsEnding None bytes ending = HasEndingOfEither Sha1 Sha256 bytes ending
-IsEnding (Some kind) bytes ending = HasEnding kind bytes ending
+abbrev pub IsEndingFor : Option Kind → List ℕ → Ending → Type 0
+IsEndingFor None bytes ending = HasEndingOfEither Sha1 Sha256 bytes ending
+IsEndingFor (Some kind) bytes ending = HasEnding kind bytes ending
 
 -- a verdict is on some bytes, unless it says that the file has no digest; a multi-pack-index that has a fault ends with its digest
 abbrev pub IsVerdictOnSome : Option Kind → Verdict → Type 0
 IsVerdictOnSome kind Skipped = Unit {0}
-IsVerdictOnSome kind (Ends ending) = (bytes : List ℕ) × (read : Option Kind) × IsEnding read bytes ending
-IsVerdictOnSome kind (FaultyMulti fault) = (bytes : List ℕ) × (read : Option Kind) × (id : ObjectId) × IsEnding read bytes (Sealed id)
+IsVerdictOnSome kind (Ends ending) = (bytes : List ℕ) × (read : Option Kind) × IsEndingFor read bytes ending
+IsVerdictOnSome kind (FaultyMulti fault) = (bytes : List ℕ) × (read : Option Kind) × (id : ObjectId) × IsEndingFor read bytes (Sealed id)
 IsVerdictOnSome kind said = (bytes : List ℕ) × IsVerdictOn kind bytes said
 
 -- the bytes are read as a multi-pack-index

@@ -3,7 +3,7 @@
 ghost use Rattle.std.specs.Prelude.{◌≡◌, Bool, IfSome, IsTrue, None, Some, bytes_eq, codes, map, option_map};
 ghost use Rattle.clap.specs.Matches.{first_value, found_of, matched_of, raw_values, subcommand_name_of};
 ghost use Rattle.gix_hash.specs.declared.Kind.{Kind};
-ghost use Rattle.packtool.specs.Arguments.{IsAbout, IsGiven, action_in, name_of};
+ghost use Rattle.packtool.specs.Arguments.{IsAbout, IsGiven, action_in, command_name};
 
 use clap::{Arg, ArgAction, ArgMatches, Command, value_parser};
 use gix_hash::Kind;
@@ -58,7 +58,7 @@ struct Row {
     usage: &'static str,
     about: &'static str,
     arguments: &'static [Argument],
-    ghost named: { IsTrue (bytes_eq name.now (name_of action)) },
+    ghost named: { IsTrue (bytes_eq name.now (command_name action)) },
 }
 
 // An argument of a command.
@@ -238,7 +238,7 @@ fn files<'a>(alloc: Global, value: &'a str) -> Arg<'a> {
 /// The request that was read, or `None` if it names no command.
 pub fn read_request<'m, 'a>(matches: &'m ArgMatches<'a>) -> Option<Request<'m, 'a>>
     ensures { IfSome result (λ request.
-        subcommand_name_of matches.now ≡ Some (name_of (action_in request))) }
+        subcommand_name_of matches.now ≡ Some (command_name (action_in request))) }
 {
     let (name, matches) = matches.subcommand()?;
     match action_of(name)? {
@@ -249,7 +249,7 @@ pub fn read_request<'m, 'a>(matches: &'m ArgMatches<'a>) -> Option<Request<'m, '
 
 // What the command of a name does, or `None` if there is none.
 fn action_of(name: &str) -> Option<Action>
-    ensures { IfSome result (λ action. name_of action ≡ name.now) }
+    ensures { IfSome result (λ action. command_name action ≡ name.now) }
 {
     let rows = &COMMANDS[..];
     for row in rows {

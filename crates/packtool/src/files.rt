@@ -6,7 +6,7 @@ ghost use Rattle.std.specs.Option.{ForSome};
 ghost use Rattle.std.specs.Path.{path_file_name};
 ghost use Rattle.pack_index.specs.Format.{ids_start, num_objects};
 ghost use Rattle.store_questions.specs.Failures.{IsAt};
-ghost use Rattle.packtool.specs.Verdicts.{HasWrittenVerdict, IsEnding, IsRight, IsVerdictOn, IsVerdictOnSome};
+ghost use Rattle.packtool.specs.Verdicts.{HasWrittenVerdict, IsEndingFor, IsRight, IsVerdictOn, IsVerdictOnSome};
 ghost use Rattle.store_questions.specs.declared.failure.FileWhy.{FileWhy};
 ghost use Rattle.packtool.specs.declared.files.Verdict.{Verdict};
 ghost use Rattle.streams.specs.Devices.{plain_error, plain_failed, plain_inner};
@@ -226,7 +226,7 @@ fn verdict_of_multi<'a, S: ReadAt + Drop>(
     kind: Option<Kind>,
     ending: Ending,
 ) -> Result<Verdict, Failure<'a>>
-    requires { (bytes : List ℕ) × (read : _) × IsEnding read bytes ending }
+    requires { (bytes : List ℕ) × (read : _) × IsEndingFor read bytes ending }
     ensures { IfOk result (IsVerdictOnSome kind) }
 {
     if !is_sealed(&ending) {
@@ -388,7 +388,8 @@ fn ending_in<'a, R: io::Read + Seek>(
     path: &str,
     kind: Option<Kind>,
 ) -> Result<Ending, Failure<'a>>
-    ensures { IfOk result (λ ending. (bytes : List ℕ) × (read : _) × IsEnding read bytes ending) }
+    ensures { IfOk result (λ ending. (bytes : List ℕ) × (read : _)
+        × IsEndingFor read bytes ending) }
 {
     let ending = ending_of(rt, reader, path, kind.or(Some(Kind::Sha1)))?;
     if kind.is_some() || is_sealed(&ending) {
@@ -416,7 +417,7 @@ fn ending_of<'a, R: io::Read>(
     path: &str,
     kind: Option<Kind>,
 ) -> Result<Ending, Failure<'a>>
-    ensures { IfOk result (λ ending. (bytes : List ℕ) × IsEnding kind bytes ending) }
+    ensures { IfOk result (λ ending. (bytes : List ℕ) × IsEndingFor kind bytes ending) }
 {
     let mut input = Plain::new(Retrying::new(reader));
     match check_as(&mut input, kind) {
@@ -431,7 +432,7 @@ fn check_as<R: Source>(input: &mut R, kind: Option<Kind>) -> Result<Ending, Pipe
     requires { R.has_failed input.old ≡ false }
     ensures { IfOk result (λ ending. (bytes : List ℕ)
         × HasReadAll (R.remaining input.old) (R.remaining input.new) bytes
-        × IsEnding kind bytes ending) }
+        × IsEndingFor kind bytes ending) }
 {
     match kind {
         Some(kind) => check_seal(input, kind),

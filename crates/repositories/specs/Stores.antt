@@ -11,13 +11,13 @@ abbrev pub ◌or_else◌ : Option Bool → Option Bool → Option Bool
 test or_else other = test >>= λ holds. if holds then Some true else other
 
 -- the two hex digits of a byte
-abbrev pub hex_of : ℕ → List ℕ
-hex_of byte = hex_letter (byte / 16) ∷ hex_letter (byte % 16) ∷ []
+abbrev pub byte_hex : ℕ → List ℕ
+byte_hex byte = hex_letter (byte / 16) ∷ hex_letter (byte % 16) ∷ []
 
 -- whether a directory has a fan-out directory of a byte below this number; the highest is looked at first
 unfoldable pub has_fan_out : ℕ → List ℕ → Answers → Option Bool
 has_fan_out zero path at = Some false
-has_fan_out (suc byte) path at = is_directory (path_join path (hex_of byte)) at or_else has_fan_out byte path at
+has_fan_out (suc byte) path at = is_directory (path_join path (byte_hex byte)) at or_else has_fan_out byte path at
 
 -- whether a directory is an object directory: it has the directory pack, the file info/alternates or a fan-out directory
 unfoldable pub is_store : List ℕ → Answers → Option Bool

@@ -5,7 +5,7 @@ ghost use Rattle.std.specs.List.{list_all};
 ghost use Rattle.std.specs.Str.{is_utf8};
 ghost use Rattle.repositories.specs.Answers.{Finds, IfKnown, is_memory};
 ghost use Rattle.repositories.specs.Discovery.{HasKind, HasKindBeside, HasKindFound, HasNoKindFound, alternate_in, alternates_of, are_text, find_objects, objects_of};
-ghost use Rattle.repositories.specs.Stores.{has_fan_out, hex_of, is_store};
+ghost use Rattle.repositories.specs.Stores.{has_fan_out, byte_hex, is_store};
 ghost use Rattle.repositories.specs.Views.{repository_of};
 
 use crate::alternates::alternate_paths;
@@ -264,7 +264,7 @@ fn is_store<R: Directories>(rt: &R, path: &str) -> Result<bool, Error>
 fn has_fan_out<R: Directories>(rt: &R, path: &str, byte: u8) -> Result<bool, Error>
     ensures { Finds (λ has. has) result (has_fan_out (suc byte) path.now) (R.answers rt.now) }
 {
-    if has_directory(rt, path, &hex_of(rt, byte)?)? {
+    if has_directory(rt, path, &byte_hex(rt, byte)?)? {
         return Ok(true);
     }
     if byte == 0 {
@@ -274,8 +274,8 @@ fn has_fan_out<R: Directories>(rt: &R, path: &str, byte: u8) -> Result<bool, Err
 }
 
 // The two hex digits of a byte.
-fn hex_of(rt: &impl AllocGlobal, byte: u8) -> Result<String, AllocError>
-    ensures { IfOk result (λ digits. string_bytes digits ≡ hex_of byte) }
+fn byte_hex(rt: &impl AllocGlobal, byte: u8) -> Result<String, AllocError>
+    ensures { IfOk result (λ digits. string_bytes digits ≡ byte_hex byte) }
 {
     format!(in rt.alloc(); "{byte:02x}")
 }

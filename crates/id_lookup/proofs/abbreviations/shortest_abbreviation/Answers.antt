@@ -15,8 +15,8 @@ returns-then-hex_len-len_in_hex-clause-none g c = λ is sorted name short.
     let lacks = returns-then-hex_len-len_in_hex-clause-lacks g c is sorted in
     omega (arith, lacks.2, has_room (map g.I.Id.digits c.args.ids.now) c.args.least c.args.at name short lacks.0 (max lacks.0 c.args.least) lacks.1 refl)
 
-pub returns-clause-name : goal.returns-clause-name
-returns-clause-name g c sorted =
+pub returns-clause-abbreviation : goal.returns-clause-abbreviation
+returns-clause-abbreviation g c sorted =
     let enough : 4 ≤ c.max-hex_len.result = omega (arith, c.requires.enough, c.max-hex_len.ensures) in
     let few : c.max-hex_len.result ≤ hex_len_of (oid_kind c.id_at-id.result) =
     omega (arith, c.if-hex_len-len_in_hex.false, c.len_in_hex.ensures, ap hex_len_of c.kind.ensures.value) in

@@ -17,5 +17,5 @@ returns-clause-kind g c =
     let inside : c.args.at < length (map g.I.Id.digits c.args.ids.now) = omega (arith, length-map c.args.ids.now g.I.Id.digits, c.requires.in_range) in
     same_kind c.unwrap.result.kind c.args.kind ((rw c.unwrap.ensures at c.shortest_abbreviation.ensures.kind) ∙ c.requires.index.kinds c.args.at [] (omega arith) inside)
 
-pub returns-clause-name : goal.returns-clause-name
-returns-clause-name g c = (rw c.unwrap.ensures at c.shortest_abbreviation.ensures.name) (index-sorted _ _ c.requires.index)
+pub returns-clause-abbreviation : goal.returns-clause-abbreviation
+returns-clause-abbreviation g c = (rw c.unwrap.ensures at c.shortest_abbreviation.ensures.abbreviation) (index-sorted _ _ c.requires.index)

@@ -16,5 +16,5 @@ returns-clause-found c = matches-part
 pub returns-clause-two : goal.returns-clause-two
 returns-clause-two c = part-matches
 
-pub returns-clause-names : goal.returns-clause-names
-returns-clause-names c = abbreviation-whole
+pub returns-clause-abbreviations : goal.returns-clause-abbreviations
+returns-clause-abbreviations c = abbreviation-whole

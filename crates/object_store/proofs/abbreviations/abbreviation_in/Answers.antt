@@ -27,7 +27,7 @@ returns-in-1 c =
     get_or-map id_digits given at id [] (omega (arith, one.in_range, length-map given id_digits)) ∙ ap id_digits (get_or_from_slice_get given at id id c.abbreviated_at.ensures.id) in
     let kind = c.args.prefix.now.kind in
     let same : c.kind.result ≡ kind = c.kind.ensures.value ∙ c.as_oid.ensures.kind in
-    let name = abbreviation_there kind c.args.least ids c.requires.index at (id_digits id) c.abbreviated_at.result.abbreviation.digits (omega (arith, one.in_range)) is c.abbreviated_at.ensures.name in
+    let name = abbreviation_there kind c.args.least ids c.requires.index at (id_digits id) c.abbreviated_at.result.abbreviation.digits (omega (arith, one.in_range)) is c.abbreviated_at.ensures.abbreviation in
     (only_one c.args.prefix.now ids at one ∙ ap (λ (x : List ℕ). x ∷ []) is, name, rw (← same) c.abbreviated_at.ensures.kind)
 
 pub returns-in_default : goal.returns-in_default

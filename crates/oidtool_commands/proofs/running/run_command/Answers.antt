@@ -1,7 +1,7 @@
 use Rattle.gix_hash.proofs.Std.{ℕ, Option, List, inr, refl, Keeps}
 use Rattle.id_lookup.specs.Words.{Hex, Reverse}
 use Rattle.oidtool_commands.specs.Commands.{Does}
-use Rattle.list_search.specs.Searches.{Finds, From}
+use Rattle.list_search.specs.Searches.{Succeeds, From}
 use Rattle.oidtool_commands.specs.declared.command.Command.{Command}
 use Rattle.oidtool_commands.specs.declared.command.Command.TheVariants.{Find, FindChange, FindIn, Hash, HashFile, Seal}
 use Rattle.list_search.specs.declared.search.Search.{Search}
@@ -11,7 +11,7 @@ use Rattle.oidtool_commands.proofs.running.run_command.Goals as goal
 
 -- a flush leaves what was written
 finds_kept : (search : Search) (prefix : List ℕ) (most : ℕ) (input input' old mid new : Option (List ℕ)) (count : ℕ)
-    → Finds search prefix (From most input input') old mid count → Keeps mid new → Finds search prefix (From most input input') old new count
+    → Succeeds search prefix (From most input input') old mid count → Keeps mid new → Succeeds search prefix (From most input input') old new count
 finds_kept search prefix most input input' old mid new count all keeps = record {
   text = all.text;
   gives = all.gives;

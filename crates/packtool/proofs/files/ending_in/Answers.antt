@@ -2,13 +2,13 @@ use Rattle.gix_hash.proofs.Std.{List, Option, Some, subst, sym, ℕ}
 use Rattle.gix_hash.specs.declared.Kind.{Kind}
 use Rattle.gix_hash.specs.declared.Kind.TheVariants.{Sha256}
 use Rattle.streams.specs.declared.checking.Ending.{Ending}
-use Rattle.packtool.specs.Verdicts.{IsEnding}
+use Rattle.packtool.specs.Verdicts.{IsEndingFor}
 use Rattle.packtool.proofs.files.ending_in.Goals as goal
 use Rattle.packtool.proofs.files.ending_in.Goals.{else-is_sealed-2, then-is_sealed-2}
 
 -- how some bytes end
 abbrev IsSome : Ending → Type 0
-IsSome ending = (bytes : List ℕ) × (read : Option Kind) × IsEnding read bytes ending
+IsSome ending = (bytes : List ℕ) × (read : Option Kind) × IsEndingFor read bytes ending
 
 pub returns : goal.returns
 returns g c =

@@ -11,14 +11,14 @@ module _ (g : Over) (c : In_ok-abbreviated g) where
   long : length (id_digits c.args.id.now) ≡ hex_len_of (g.S.Store.view c.args.self.now.now).kind
   long = c.kind-kind.ensures.len ∙ ap hex_len_of c.requires.kind
 
-  name : IsAbbreviated c.args.least (g.S.Store.view c.args.self.now.now) (id_digits c.args.id.now) c.in_ok-abbreviated.field-0
-  name = subst (λ (p : KindDigits). IsAbbreviated c.args.least (g.S.Store.view c.args.self.now.now) p.digits c.in_ok-abbreviated.field-0) c.from.ensures c.in_ok-abbreviated.ensures.name
+  abbreviated : IsAbbreviated c.args.least (g.S.Store.view c.args.self.now.now) (id_digits c.args.id.now) c.in_ok-abbreviated.field-0
+  abbreviated = subst (λ (p : KindDigits). IsAbbreviated c.args.least (g.S.Store.view c.args.self.now.now) p.digits c.in_ok-abbreviated.field-0) c.from.ensures c.in_ok-abbreviated.ensures.abbreviation
 
-pub returns-in-Unique-clause-name : goal.returns-in-Unique-clause-name
-returns-in-Unique-clause-name g c =
-    let here = (goal.at.returns-in-Unique-clause-name g c).In_ok-abbreviated in
+pub returns-in-Unique-clause-abbreviation : goal.returns-in-Unique-clause-abbreviation
+returns-in-Unique-clause-abbreviation g c =
+    let here = (goal.at.returns-in-Unique-clause-abbreviation g c).In_ok-abbreviated in
     let id = id_digits c.args.id.now in
-    abbreviation_unique c.args.least (g.S.Store.view c.args.self.now.now) id (long g here) c.in-Unique.abbreviated (subst (IsAbbreviated c.args.least (g.S.Store.view c.args.self.now.now) id) c.in-Unique.is (name g here))
+    abbreviation_unique c.args.least (g.S.Store.view c.args.self.now.now) id (long g here) c.in-Unique.abbreviated (subst (IsAbbreviated c.args.least (g.S.Store.view c.args.self.now.now) id) c.in-Unique.is (abbreviated g here))
 
 pub returns-in-Missing : goal.returns-in-Missing
 returns-in-Missing g c =
@@ -26,7 +26,7 @@ returns-in-Missing g c =
     let view = g.S.Store.view c.args.self.now.now in
     let id = id_digits c.args.id.now in
     let none : IsAbbreviationOf c.args.least view id None = elim c.in-Missing.is [
-      | inl missing ↦ abbreviation_missing c.args.least view id (long g here) (subst (IsAbbreviated c.args.least view id) missing (name g here))
-      | inr ambiguous ↦ abbreviation_ambiguous c.args.least view id (long g here) (subst (IsAbbreviated c.args.least view id) ambiguous (name g here))
+      | inl missing ↦ abbreviation_missing c.args.least view id (long g here) (subst (IsAbbreviated c.args.least view id) missing (abbreviated g here))
+      | inr ambiguous ↦ abbreviation_ambiguous c.args.least view id (long g here) (subst (IsAbbreviated c.args.least view id) ambiguous (abbreviated g here))
     ] in
-    record { store = c.in_ok-abbreviated.ensures.store; name = none; err = tt }
+    record { store = c.in_ok-abbreviated.ensures.store; abbreviation = none; err = tt }

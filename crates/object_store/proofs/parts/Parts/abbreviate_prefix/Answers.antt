@@ -10,8 +10,8 @@ returns-in_err-front-clause-err g c =
     let byte = front_byte c.args.least c.args.prefix.now.digits c.front_of.result.digits c.front_of.ensures.digits c.requires.enough c.requires.can.enough in
     rw (p.1, p.2, ← byte) c.in_err-front.ensures.err
 
-pub returns-clause-name : goal.returns-clause-name
-returns-clause-name g c =
+pub returns-clause-abbreviation : goal.returns-clause-abbreviation
+returns-clause-abbreviation g c =
     let digits = c.args.prefix.now.digits in
     let a = c.abbreviation_in-found.result in
     let Found : Kind → List ObjectId → Type 0 = λ kind ids. IsAbbreviatedAs c.args.least kind (map id_digits ids) (matches digits (map id_digits ids)) a in

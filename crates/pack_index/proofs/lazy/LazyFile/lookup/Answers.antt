@@ -3,8 +3,8 @@ use Rattle.id_lookup.specs.Words.{oid_digits}
 use Rattle.pack_index.proofs.LookedUp.{found_counted, found_whole, name_is}
 use Rattle.pack_index.proofs.lazy.LazyFile.lookup.Goals as goal
 
-pub returns-in-Some-clause-name : goal.returns-in-Some-clause-name
-returns-in-Some-clause-name g c = λ tables is.
+pub returns-in-Some-clause-id : goal.returns-in-Some-clause-id
+returns-in-Some-clause-id g c = λ tables is.
     rw c.start.ensures ((name_is tables (oid_digits c.args.id) (c.args.bucket.now.start + c.in-Some.at)
     (found_counted tables c.args.bucket.now (oid_digits c.args.id) (c.requires.known tables is) (Some c.in-Some.at) c.in-Some.ensures)).1)
 

@@ -1,12 +1,12 @@
 use Rattle.gix_hash.proofs.Std.{◌≡◌, ◌∙◌, ◌^◌, ◌-◌, ℕ, List, [], IfOk, IfSome, Option, Some, ap, false, option_map, string_bytes, subst}
 use Rattle.std.specs.Fmt.{format_spec, padded_integral, styled_digits_output}
-use Rattle.repositories.specs.Stores.{hex_of}
+use Rattle.repositories.specs.Stores.{byte_hex}
 use Rattle.repositories.proofs.HexBytes.{two_digits}
-use Rattle.repositories.proofs.finding.hex_of.Goals as goal
+use Rattle.repositories.proofs.finding.byte_hex.Goals as goal
 
 pub returns : goal.returns
 returns g c =
-    let hex : styled_digits_output c.in_radix.result c.laid_out.result ≡ Some (hex_of c.args.byte) =
+    let hex : styled_digits_output c.in_radix.result c.laid_out.result ≡ Some (byte_hex c.args.byte) =
     ap (styled_digits_output c.in_radix.result) c.laid_out.ensures
     ∙ ap (option_map (padded_integral (format_spec 32 0 4 2 (2 ^ 64 - 1)) false [])) c.in_radix.ensures
     ∙ ap Some (two_digits c.args.byte c.ranges.byte.fits) in

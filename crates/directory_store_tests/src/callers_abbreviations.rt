@@ -1,10 +1,10 @@
 //! A call of each kind of `callers`: ids that are printed, kept in a set and a map, sorted, and
-//! found by typed names; files of references and a commit, of a repository that Git made.
+//! found by typed abbreviations; files of references and a commit, of a repository that Git made.
 
 use crate::expecting::{expect, expect_ids};
+use callers::abbreviations::{Resolved, resolve, write_abbreviation};
 use callers::checking::{pack_name, write_line};
 use callers::commits::read_head;
-use callers::names::{Resolved, resolve, write_name};
 use callers::references::{read_reference, write_reference};
 use callers::sets::{mark_seen, set_offset};
 use callers::sorting::sort_into_index;
@@ -60,7 +60,7 @@ const TYPED: [(&str, Option<usize>); 5] = [
 
 // The abbreviation is by `git rev-parse --short=4`.
 #[test]
-fn typed_names(rt: HostRuntime) -> Result<(), Fail> {
+fn typed_abbreviations(rt: HostRuntime) -> Result<(), Fail> {
     let mut ids = ids_of(&rt, &OBJECTS)?;
     let index = sort_into_index(&mut ids, Kind::Sha1)?;
     for &(name, want) in &TYPED {
@@ -74,7 +74,7 @@ fn typed_names(rt: HostRuntime) -> Result<(), Fail> {
     }
     let mut out = Vec::new(rt.alloc());
     if index.len() > 1 {
-        write_name(&index, 1, &mut out)?;
+        write_abbreviation(&index, 1, &mut out)?;
     }
     expect!(&rt; out.as_slice() == b"259a\n".as_slice());
     Ok(())
