@@ -1,6 +1,6 @@
 //! The names in directories, and the states of directories.
 
-ghost use Rattle.std.specs.Prelude.{◌≡◌, ◌⊎◌, ◌↔◌, All, IfErr, IfOk, IsNone, IsTrue, OnOk, Some, [], length, map, string_bytes, vec_len};
+ghost use Rattle.std.specs.Prelude.{◌≡◌, ◌⊎◌, ◌↔◌, All, IfErr, IfOk, IsNone, IsTrue, None, OnOk, Some, [], length, map, slice_index_or, string_bytes, vec_len};
 ghost use Rattle.repositories.specs.Answers.{IfKnown};
 ghost use Rattle.repositories.specs.States.{IsSettled};
 ghost use Rattle.repositories.specs.Walks.{IsStateOf, or_here};
@@ -74,11 +74,10 @@ pub(crate) fn states_of<R: Directories>(
 }
 
 // The state at a position, if it is known.
-fn known_at(states: &[Option<FileState>], at: usize) -> Option<FileState> {
-    match states.get(at) {
-        Some(state) => *state,
-        None => None,
-    }
+fn known_at(states: &[Option<FileState>], at: usize) -> Option<FileState>
+    ensures { result ≡ slice_index_or states.now at None }
+{
+    states.get(at).copied().flatten()
 }
 
 // Fails if a directory is in another state.

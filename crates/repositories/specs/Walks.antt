@@ -137,9 +137,13 @@ looked_at objects given at = walk_over objects given at >>= λ walk. Some walk.l
 abbrev pub walk_of : AWalk → Walk
 walk_of walk = record { paths = map string_bytes walk.found.paths.items; numbers = walk.numbers.items; skipped = length walk.found.skipped.items; looked = map (λ look. string_bytes look.path) walk.found.looks.items }
 
--- what a walk of the code has noted, each with its path
+-- what was seen, each with its path
+abbrev pub seen_at : List Look → List (List ℕ × Seen)
+seen_at looks = map (λ look. (string_bytes look.path, look.seen)) looks
+
+-- what a walk of the code has noted
 abbrev pub noted : AWalk → List (List ℕ × Seen)
-noted walk = map (λ look. (string_bytes look.path, look.seen)) walk.found.looks.items
+noted walk = seen_at walk.found.looks.items
 
 -- the paths that a walk found, and how many were skipped
 abbrev pub directories_of : ObjectDirectories → List (List ℕ) × ℕ

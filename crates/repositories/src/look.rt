@@ -1,8 +1,8 @@
 //! What a walk over object directories sees at paths, to know whether it is there still.
 
-ghost use Rattle.std.specs.Prelude.{IsTrue};
+ghost use Rattle.std.specs.Prelude.{ℕ, ◌≡◌, ◌⊎◌, ◌++◌, IfSome, IsSomeAnd, IsTrue, List, Some, string_bytes};
 ghost use Rattle.repositories.specs.Answers.{IfKnown};
-ghost use Rattle.repositories.specs.Walks.{IsSeen};
+ghost use Rattle.repositories.specs.Walks.{IsSeen, state_at};
 
 use crate::directories::Directories;
 use crate::files::{FileNumber, real_directory};
@@ -71,9 +71,14 @@ pub(crate) struct AbovePaths {
 
 impl AbovePaths {
     // Whether a path leads into what is missing.
-    fn is_missing(&self, path: &str) -> bool {
-        let below = path.strip_prefix(self.missing.as_str());
-        !self.missing.is_empty() && below.is_some_and(|below| below.starts_with('/'))
+    fn is_missing(&self, path: &str) -> bool
+        ensures { IsTrue result → (below : List ℕ)
+            × (path.now ≡ string_bytes self.now.missing ++ below) }
+    {
+        match path.strip_prefix(self.missing.as_str()) {
+            Some(below) => !self.missing.is_empty() && below.starts_with('/'),
+            None => false,
+        }
     }
 }
 
@@ -84,7 +89,11 @@ pub(crate) fn first_above<'a, R: Directories>(
     path: &'a str,
     last: &AbovePaths,
     known: Option<(&str, FileState)>,
-) -> Option<Above<'a>> {
+) -> Option<Above<'a>>
+    ensures { IfSome result (λ above. IsSomeAnd known.entry (λ directory.
+        (directory.0.now ≡ above.path.now) × (directory.1 ≡ above.state))
+        ⊎ IfKnown (λ at. state_at above.path.now at ≡ Some (Some above.state)) (R.answers rt.now)) }
+{
     if last.is_missing(path) {
         return None;
     }

@@ -1,12 +1,13 @@
 //! Finds an object directory and its alternates.
 
-ghost use Rattle.std.specs.Prelude.{◌≡◌, ◌≢◌, ◌++◌, ◌∷◌, [], All, IfErr, IfOk, IsTrue, OnOk, Some, codes, map, None, string_bytes, true};
+ghost use Rattle.std.specs.Prelude.{◌≡◌, ◌≢◌, ◌++◌, ◌∷◌, ◌-◌, [], All, IfErr, IfOk, IfSome, IsTrue, OnOk, Some, codes, false, length, map, None, slice_index_or, string_bytes, true};
+ghost use Rattle.std.specs.List.{Contains};
 ghost use Rattle.std.specs.IoError.{error_kind};
 ghost use Rattle.std.specs.Path.{path_join};
 ghost use Rattle.std.specs.declared.io.ErrorKind.{ErrorKind};
 ghost use Rattle.repositories.specs.Answers.{Finds, IfKnown, is_memory};
 ghost use Rattle.repositories.specs.Views.{directory_of};
-ghost use Rattle.repositories.specs.Walks.{IsSeen, directories_of, each, has, list_at, look_at, looked_at, noted, skip, skip_unusable, text_at, visit, visit_below, walk_from, walk_of, walk_over, with_alternates, with_first, with_directory, with_path, with_paths};
+ghost use Rattle.repositories.specs.Walks.{IsSeen, directories_of, each, has, list_at, look_at, looked_at, noted, seen_at, skip, skip_unusable, text_at, visit, visit_below, walk_from, walk_of, walk_over, with_alternates, with_first, with_directory, with_path, with_paths};
 
 use crate::alternates::alternate_paths;
 use crate::directories::Directories;
@@ -297,7 +298,9 @@ impl Walk {
         directory: &str,
         state: FileState,
     ) -> Result<(), AllocError>
-        ensures { OnOk result (walk_of self.new ≡ look_at list.now (walk_of self.old)) }
+        ensures looked { OnOk result (walk_of self.new ≡ look_at list.now (walk_of self.old)) }
+        ensures noted { OnOk result (slice_index_or (noted self.new) (length (noted self.old))
+            ([], Seen.Unusable) ≡ (list.now, Seen.State None)) }
     {
         if let Some(above) = first_above(rt, list, &self.above, Some((directory, state))) {
             if above.path != directory
@@ -423,8 +426,12 @@ impl Walk {
 
 // Whether the last look was at this directory. If so, its state is noted there.
 fn note_whole_state(looks: &mut Vec<Look>, directory: &str, state: FileState) -> bool
-    ensures { map (λ look. string_bytes look.path) looks.new.items
+    ensures paths { map (λ look. string_bytes look.path) looks.new.items
         ≡ map (λ look. string_bytes look.path) looks.old.items }
+    ensures noted { IsTrue result → slice_index_or (seen_at looks.new.items)
+        (length looks.new.items - 1) ([], Seen.Unusable)
+        ≡ (directory.now, Seen.DirectoryIn state) }
+    ensures same { result ≡ false → seen_at looks.new.items ≡ seen_at looks.old.items }
 {
     match looks.last_mut() {
         Some(look) if look.path.as_str() == directory => {
@@ -436,7 +443,10 @@ fn note_whole_state(looks: &mut Vec<Look>, directory: &str, state: FileState) ->
 }
 
 // The state of a directory that was noted, if the look before the last one was at it.
-fn whole_state(looks: &[Look], directory: &str) -> Option<FileState> {
+fn whole_state(looks: &[Look], directory: &str) -> Option<FileState>
+    ensures { IfSome result (λ state. Contains (seen_at looks.now)
+        (directory.now, Seen.DirectoryIn state)) }
+{
     match looks {
         [.., look, _] if look.path.as_str() == directory => match look.seen {
             Seen::DirectoryIn(state) => Some(state),
