@@ -4,8 +4,7 @@ use Rattle.std.specs.Result.{result_ok}
 use Rattle.gix_hash.specs.Words.{first_byte_of}
 use Rattle.gix_hash.specs.declared.Kind.{Kind}
 use Rattle.object_store.specs.Stores.{AreKnown, StoreView, ids_held}
-use Rattle.pack_index.specs.Format.{ids_in}
-use Rattle.pack_index.specs.Lazy.{HasRightCounts, HaveRightCounts, IndexView, LazyIndex, Tables, seen, tables_of}
+use Rattle.pack_index.specs.Lazy.{HasRightCounts, HaveRightCounts, IndexView, LazyIndex, Tables, ids_at, seen, tables_of}
 use Rattle.pack_index.specs.declared.layout.Layout.TheVariants.{Index}
 use Rattle.repositories.specs.Answers.{Answers}
 use Rattle.directory_store.specs.Loose.{HasLoose, bytes_asked}
@@ -109,7 +108,7 @@ module _ (at : Answers) (purpose : Purpose) (which : LooseIds) (view : StoreView
             (place.0, place.1, inl (path.0, file.0, place.2, file.1, subst (λ (t : Tables). Contains t.ids id) same one.2))
       ]
 
-  packed_has : (id directory path bytes : List ℕ) → Contains directories directory → HasIndex at directory path → at.bytes path ≡ Ok bytes → Contains (ids_in view.kind bytes) id → Contains packed id
+  packed_has : (id directory path bytes : List ℕ) → Contains directories directory → HasIndex at directory path → at.bytes path ≡ Ok bytes → Contains (ids_at view.kind Index bytes) id → Contains packed id
   packed_has id directory path bytes has index is name =
       elim (read.covered.all path (index_has at directories packs listed directory path has index)) [
         | inl left ↦

@@ -2,6 +2,7 @@ mod Clones
 mod Covers
 mod FileNames
 mod IndexLists
+mod Listed
 mod Damage
 mod DirectoryTables
 mod LooseNames

@@ -2,8 +2,8 @@
 use Rattle.gix_hash.proofs.Std.{◌≡◌, ◌≢◌, ◌↔◌, ◌∙◌, ◌++◌, ◌∷◌, ◌+◌, ◌<◌, ◌≤◌, ◌/◌, ◌%◌, ℕ, All, Contains, Contains-append_left, Err, IsNone, List, [], None, Ok, Option, Result, Some, ap, arith, drop, get_or, get_or-map, inl, inr, length, map, map-id, map-range_with_len_more, option_map, range_with_len, refl, subst, sym, take, unwrap_or}
 use Rattle.std.specs.Global.{Global}
 use Rattle.std.specs.Prelude.{String, Vec}
+use Rattle.std.specs.Result.{result_ok}
 use Rattle.std.specs.declared.io.ErrorKind.{ErrorKind}
-use Rattle.std.specs.declared.io.ErrorKind.TheVariants.{NotFound}
 use Rattle.std.proofs.lemmas.List.Elements.{Contains-push, Contains-push_cases}
 use Rattle.gix_hash.proofs.SpellingLaws.{spelling-injective}
 use Rattle.gix_hash.specs.Words.{AreIdDigits, first_byte_of, hex_letter, id_digits, spelling}
@@ -17,15 +17,14 @@ use Rattle.repositories.specs.Walks.{state_at}
 use Rattle.repositories.specs.declared.directories.Found.{Found}
 use Rattle.repositories.specs.declared.state.FileState.{FileState}
 use Rattle.directory_store.specs.Loose.{AreLooseIn, AreNamesIn, fan_out_in, listed_in}
-use Rattle.directory_store.specs.Packs.{if_listed, split_names}
+use Rattle.directory_store.specs.Packs.{split_names}
 use Rattle.directory_store.specs.Stores.{AppendsLooseIds}
 use Rattle.directory_store.proofs.FileNames.{are_got}
 
 -- nothing is listed where nothing is
-unlisted : (answer : Result (List ℕ) ErrorKind) → ((names : List ℕ) → answer ≢ Ok names) → unwrap_or (if_listed answer) [] ≡ []
+unlisted : (answer : Result (List ℕ) ErrorKind) → ((names : List ℕ) → answer ≢ Ok names) → unwrap_or (result_ok answer) [] ≡ []
 unlisted (Ok names) none = absurd (none names refl)
-unlisted (Err NotFound) none = refl
-unlisted (Err _) none = refl
+unlisted (Err kind) none = refl
 
 pub missing_is_unlisted : (at : Answers) (path : List ℕ) (state : Option FileState) → state_at path at ≡ Some state → IsNone state → listed_in path at ≡ []
 missing_is_unlisted at path (Some state) is none = absurd (cc none)

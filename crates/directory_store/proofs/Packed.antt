@@ -1,5 +1,5 @@
 -- The pack indexes of several object directories: by the names in their directories of packs.
-use Rattle.gix_hash.proofs.Std.{◌≡◌, ◌∙◌, ◌++◌, ◌-◌, ◌∷◌, [], Bool, Contains, Contains-permutation, IsPermutation-sym, IsTrue, List, Option, ap, append_assoc, arith, codes, false, false≢true, filter, flat_map, if◌then◌else◌, length, map, refl, subst, sym, take, true, unwrap_or, zero, suc, ℕ, ◌==◌}
+use Rattle.gix_hash.proofs.Std.{◌≡◌, ◌∙◌, ◌++◌, ◌-◌, ◌∷◌, [], Bool, Contains, Contains-permutation, IsPermutation-sym, IsTrue, List, ap, append_assoc, arith, codes, false, false≢true, filter, flat_map, if◌then◌else◌, length, map, refl, subst, sym, take, true, zero, suc, ℕ, ◌==◌}
 use Rattle.std.proofs.lemmas.Bool.Decides.{Decides-eqb}
 use Rattle.std.proofs.lemmas.Slice.Eq.{ends_is}
 use Rattle.std.specs.Path.{path_join, slash, with_separator}
@@ -11,6 +11,7 @@ use Rattle.directory_store.specs.Opened.{HasIndex}
 use Rattle.directory_store.specs.Packs.{AreIndexesIn, ArePacks, has_pack, index_in, is_found_file, is_index_name, packs_of, split_names}
 use Rattle.directory_store.specs.Stores.{index_path}
 use Rattle.directory_store.specs.declared.pack_paths.PackPaths.{PackPaths}
+use Rattle.directory_store.proofs.Listed.{listed_of}
 use Rattle.directory_store.proofs.Members.{flat_from, flat_has, map_from, map_has, zip_from, zip_has}
 
 -- a name of a pack index has a stem
@@ -52,7 +53,7 @@ one_has false made is = absurd (false≢true is)
 -- in the directories of packs of several object directories
 module _ (at : Answers) (directories : List (List ℕ)) (packs : List PackPaths) (are : ArePacks at (map packs_of directories) packs) where
   listed_is : (directory : List ℕ) (paths : List (List ℕ)) → (are : AreIndexesIn at directory paths) → listed_in directory at ≡ are.names
-  listed_is directory paths are = ap (λ (names : Option (List ℕ)). unwrap_or names []) are.listed
+  listed_is directory paths are = sym (listed_of directory are.names at are.listed)
 
   -- the pack of a pack index is there if and only if that is at its path
   pack_is : (directory stem path : List ℕ) (pack : PackPaths) → index_path pack ≡ path → path ≡ path_join directory (stem ++ codes ".idx")

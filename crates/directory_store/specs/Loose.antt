@@ -2,11 +2,12 @@
 use Rattle.std.specs.Prelude.{ℕ, ◌≡◌, ◌↔◌, ◌++◌, ◌∷◌, All, List, [], String, Vec, drop, flat_map, map, slice_index_or, string_bytes, take, true, unwrap_or}
 use Rattle.std.specs.Global.{Global}
 use Rattle.std.specs.List.{Contains, range_with_len}
+use Rattle.std.specs.Result.{result_ok}
 use Rattle.gix_hash.specs.Words.{AreIdDigits, first_byte_of, hex_letter, spelling}
 use Rattle.gix_hash.specs.declared.Kind.{Kind}
 use Rattle.repositories.specs.Answers.{Answers}
 use Rattle.repositories.specs.Stores.{byte_hex}
-use Rattle.directory_store.specs.Packs.{names_in, split_names}
+use Rattle.directory_store.specs.Packs.{split_names}
 use Rattle.directory_store.specs.declared.loose.FanOut.{FanOut}
 use Rattle.directory_store.specs.declared.loose.LooseDirectory.{LooseDirectory}
 use Rattle.directory_store.specs.declared.loose.LooseIds.{LooseIds}
@@ -15,7 +16,7 @@ use Rattle.directory_store.specs.declared.loose.FanOutNames.{FanOutNames}
 
 -- what is listed in a directory, each name ended by a NUL: nothing if it is missing, or is none
 abbrev pub listed_in : List ℕ → Answers → List ℕ
-listed_in directory at = unwrap_or (names_in directory at) []
+listed_in directory at = unwrap_or (result_ok (at.names directory)) []
 
 -- an object directory has a loose object of the kind: the fan-out directory of the first two digits of its id has a name of the others
 pub record HasLoose (at : Answers) (kind : Kind) (directory digits : List ℕ) : Type 0 where

@@ -3,10 +3,10 @@ use Rattle.std.specs.Prelude.{ℕ, ◌≡◌, ◌⊎◌, ◌↔◌, ◌++◌, �
 use Rattle.std.specs.List.{Contains, filter}
 use Rattle.std.specs.Path.{path_join}
 use Rattle.gix_hash.specs.declared.Kind.{Kind}
-use Rattle.pack_index.specs.Format.{ids_in}
 use Rattle.pack_index.specs.Lazy.{HasRightCounts, Tables, ids_at, tables_of}
 use Rattle.pack_index.specs.Multi.{IsReadAsMulti}
 use Rattle.pack_index.specs.declared.layout.Layout.{Layout}
+use Rattle.pack_index.specs.declared.layout.Layout.TheVariants as layouts
 use Rattle.repositories.specs.Answers.{Answers}
 use Rattle.directory_store.specs.Packs.{AreOpenOrDamaged, split_names, tables_at}
 use Rattle.directory_store.specs.declared.error.Error.{Error}
@@ -50,7 +50,7 @@ pub record IsMultiOf (at : Answers) (kind : Kind) (directories listed : List (Li
 -- the ids of a multi-pack-index are those of the pack indexes that it names, and its fan-out table is right
 pub record HasIdsOf (at : Answers) (kind : Kind) (multi : Multi) : Type 0 where
   pub same : (digits : List ℕ) → Contains (ids_at kind multi.layout multi.bytes) digits
-      ↔ ((path : List ℕ) × (bytes : List ℕ) × IsNamed multi path × (at.bytes path ≡ Ok bytes) × Contains (ids_in kind bytes) digits)
+      ↔ ((path : List ℕ) × (bytes : List ℕ) × IsNamed multi path × (at.bytes path ≡ Ok bytes) × Contains (ids_at kind layouts.Index bytes) digits)
   pub counted : HasRightCounts kind multi.layout multi.bytes
 
 -- of the pack indexes that are listed at some paths, those that these multi-pack-indexes name are covered, and those at these other paths are left

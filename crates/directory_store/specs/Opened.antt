@@ -7,8 +7,7 @@ use Rattle.gix_hash.specs.Words.{first_byte_of}
 use Rattle.gix_hash.specs.declared.Kind.{Kind}
 use Rattle.id_lookup.specs.Words.{IsIndex}
 use Rattle.object_store.specs.Stores.{AreKnown, StoreView, ids_held}
-use Rattle.pack_index.specs.Format.{ids_in}
-use Rattle.pack_index.specs.Lazy.{HasRightCounts, LazyIndex}
+use Rattle.pack_index.specs.Lazy.{HasRightCounts, LazyIndex, ids_at}
 use Rattle.pack_index.specs.Multi.{IsReadAsMulti}
 use Rattle.pack_index.specs.declared.layout.Layout.TheVariants.{Index}
 use Rattle.repositories.specs.Answers.{Answers, IfKnown}
@@ -51,7 +50,7 @@ pub record AreRight (at : Answers) (purpose : Purpose) (kind : Kind) (directorie
 -- an object directory has an object: the file of one of its pack indexes has the id, or it is loose, and asked for
 abbrev pub HasObject : Answers → Kind → LooseIds → List ℕ → List ℕ → Type 0
 HasObject at kind which directory digits =
-    ((path : List ℕ) × (bytes : List ℕ) × HasIndex at directory path × (at.bytes path ≡ Ok bytes) × Contains (ids_in kind bytes) digits)
+    ((path : List ℕ) × (bytes : List ℕ) × HasIndex at directory path × (at.bytes path ≡ Ok bytes) × Contains (ids_at kind Index bytes) digits)
     ⊎ (Contains (bytes_asked which) (first_byte_of digits) × HasLoose at kind directory digits)
 
 -- one of the object directories has the object
@@ -72,9 +71,9 @@ pub record HasAll (at : Answers) (purpose : Purpose) (which : LooseIds) (directo
 abbrev pub place_of : ObjectDirectory → List ℕ × List (List ℕ)
 place_of objects = (string_bytes objects.path, map string_bytes objects.alternates.items)
 
--- these are the paths of an object directory and of its alternates, of which none is skipped
+-- these are the paths of an object directory and of its alternates, with those that the environment adds, of which none is skipped
 abbrev pub AreWithAlternates : Answers → ObjectDirectory → List (List ℕ) → Type 0
-AreWithAlternates at objects directories = let place = place_of objects in with_alternates place.0 place.1 at ≡ Some (directories, 0)
+AreWithAlternates at objects directories = with_alternates (string_bytes objects.path) (map string_bytes objects.alternates.items) at ≡ Some (directories, 0)
 
 -- a store has exactly the objects of an object directory and its alternates
 abbrev pub HasAllOf : Answers → Purpose → LooseIds → ObjectDirectory → StoreView → Type 0

@@ -145,6 +145,7 @@ impl FanOut {
     }
 
     // Lists the names. Fails if it has changed.
+    #[tactic(auto, using(crate::proofs::Listed::listed_of))]
     fn list<R: Directories>(&self, rt: &R) -> Result<Vec<u8>, Error>
         requires { IfKnown (λ at. ListsIfThere at self.now) (R.answers rt.now) }
         ensures { IfOk result (λ names. IfKnown (λ at.

@@ -61,7 +61,7 @@ put_digit (Some d) (Some digits) = Some (d ∷ digits)
 -- the digits that a text reads as
 unfoldable pub digits_read : (ℕ → ℕ) → List ℕ → Option (List ℕ)
 digits_read letter [] = Some []
-digits_read letter (c ∷ text) = put_digit (digit_in letter c) (digits_read letter text)
+digits_read letter (c ∷ text) = put_digit (digit_below letter c 16) (digits_read letter text)
 
 -- Prefixes of digits: their place among ids, and the zeros after them.
 

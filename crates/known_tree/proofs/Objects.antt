@@ -3,6 +3,7 @@ use Rattle.gix_hash.proofs.Std.{◌≡◌, ◌≢◌, ◌∙◌, ◌++◌, ◌�
 use Rattle.std.specs.Global.{Global}
 use Rattle.std.specs.Prelude.{String}
 use Rattle.std.specs.Path.{path_join}
+use Rattle.std.specs.Result.{result_ok}
 use Rattle.std.proofs.lemmas.Bool.Decides.{Decides-eqb}
 use Rattle.std.proofs.lemmas.Slice.Eq.{ends_is}
 use Rattle.std.proofs.lemmas.Str.{IsUtf8-from_ascii, is_utf8-from_IsUtf8}
@@ -20,7 +21,7 @@ use Rattle.repositories.specs.Walks.{visit_below, with_alternates}
 use Rattle.directory_store.specs.Loose.{HasLoose, bytes_asked}
 use Rattle.directory_store.specs.Multi.{Multi, multi_path}
 use Rattle.directory_store.specs.Opened.{AreObjects, AreRight, HasIndex, HasObject, HaveCounts}
-use Rattle.directory_store.specs.Packs.{if_listed, is_index_name, packs_of, split_names}
+use Rattle.directory_store.specs.Packs.{is_index_name, packs_of, split_names}
 use Rattle.directory_store.specs.declared.loose.LooseIds.TheVariants as loose_ids
 use Rattle.directory_store.specs.declared.multi.Purpose.{Purpose}
 use Rattle.directory_store.proofs.AllBytes.{only_one}
@@ -28,7 +29,7 @@ use Rattle.known_tree.specs.Trees.{answers_in, loose_digits, loose_name, names_a
 
 -- the names at a path
 abbrev listed : List ℕ → List (List ℕ)
-listed path = split_names (unwrap_or (if_listed (names_at path)) [])
+listed path = split_names (unwrap_or (result_ok (names_at path)) [])
 
 -- a name that is as long as the rest of an id is that of the loose object
 long_name : (path name : List ℕ) → Contains (listed path) name → length name ≡ 38 → (path ≡ codes "o/4b") × (name ≡ loose_name)

@@ -1,5 +1,5 @@
 -- Pack indexes that are read at positions, and not whole.
-use Rattle.std.specs.Prelude.{◌≡◌, ℕ, zero, suc, ◌+◌, ◌-◌, ◌*◌, ◌^◌, ◌<◌, ◌≤◌, ◌&&◌, Bool, true, if◌then◌else◌, IsTrue, Option, None, Some, List, [], ◌++◌, All, bytes_eq, count_by, length, nat_eq, nat_lt, option_map, slice_index_or, slice_range}
+use Rattle.std.specs.Prelude.{◌≡◌, ℕ, zero, suc, ◌+◌, ◌-◌, ◌*◌, ◌^◌, ◌<◌, ◌≤◌, ◌&&◌, Bool, true, if◌then◌else◌, IsTrue, Option, None, Some, List, [], ◌++◌, All, bytes_eq, count_by, length, nat_eq, nat_le, nat_lt, option_map, slice_index_or, slice_range}
 use Rattle.std.specs.List.{position, starts_with}
 use Rattle.std.specs.Option.{ForSome}
 use Rattle.id_digits.specs.Digits.{word}
@@ -37,19 +37,19 @@ abbrev pub first_id : Layout → ℕ
 first_id Index = ids_start
 first_id (Multi counts ids) = ids
 
--- the ids in some bytes that are a pack index, or a multi-pack-index
+-- the ids in some bytes that are a pack index, where they begin after 8 other bytes and the fan-out table, or a multi-pack-index
 abbrev pub ids_at : Kind → Layout → List ℕ → List (List ℕ)
-ids_at kind Index bytes = ids_in kind bytes
+ids_at kind Index bytes = ids_of (record { kind = kind; start = 1032; count = word_at bytes 1028 }) bytes
 ids_at kind (Multi counts ids) bytes = ids_of (record { kind = kind; start = ids; count = word_at bytes (counts + 1020) }) bytes
 
 -- how many of them have at most a first byte, by the fan-out table
 abbrev pub up_to_at : Layout → List ℕ → ℕ → ℕ
-up_to_at Index bytes byte = fan_out bytes byte
+up_to_at Index bytes byte = word_at bytes (8 + 4 * byte)
 up_to_at (Multi counts ids) bytes byte = word_at bytes (counts + 4 * byte)
 
 -- the fan-out table is right: each entry is the number of ids with at most its first byte
 abbrev pub HasRightCounts : Kind → Layout → List ℕ → Type 0
-HasRightCounts kind layout bytes = Each (λ byte. up_to_at layout bytes byte ≡ count_by (is_up_to byte) (ids_at kind layout bytes)) 256
+HasRightCounts kind layout bytes = (byte : ℕ) → byte < 256 → up_to_at layout bytes byte ≡ count_by (λ id. nat_le (first_byte_of id) byte) (ids_at kind layout bytes)
 
 -- the offset of the object at a position, if a table has it: of a multi-pack-index none is read
 abbrev pub offset_at : Kind → Layout → List ℕ → ℕ → Option ℕ

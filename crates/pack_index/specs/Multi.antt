@@ -3,8 +3,8 @@
 -- where it begins, and then an entry for where the last one ends; the chunks; and the digest of all before it.
 use Rattle.std.specs.Prelude.{◌≡◌, ◌≢◌, ℕ, ◌+◌, ◌*◌, ◌^◌, ◌<◌, ◌≤◌, List, length, slice_index, slice_range}
 use Rattle.id_lookup.specs.Words.{Kind, Sha1, Sha256, byte_len_of}
-use Rattle.pack_index.specs.Format.{Each, counts_len, digest_at, word_at}
-use Rattle.pack_index.specs.Lazy.{Rises, up_to_at}
+use Rattle.pack_index.specs.Format.{digest_at, word_at}
+use Rattle.pack_index.specs.Lazy.{bucket_start, up_to_at}
 use Rattle.pack_index.specs.declared.layout.Layout.{Layout}
 use Rattle.pack_index.specs.declared.layout.Layout.TheVariants.{Multi}
 use Rattle.pack_index.specs.declared.multi.Chunks.{Chunks}
@@ -53,10 +53,10 @@ pub record HasChunks (kind : Kind) (bytes : List ℕ) (limit : ℕ) (chunks : Ch
   pub counts : IsChunk bytes limit 1330201670 chunks.counts.start chunks.counts.end
   pub ids : IsChunk bytes limit 1330201676 chunks.ids.start chunks.ids.end
 
--- the chunk of the fan-out table has its length, its entries do not fall, and the chunk of the ids has the length of as many as the last entry says
+-- the chunk of the fan-out table has the length of 256 entries, these do not fall, and the chunk of the ids has the length of as many as the last entry says
 pub record HasFanOut (kind : Kind) (chunks : Chunks) (up_to : ℕ → ℕ) : Type 0 where
-  pub whole : chunks.counts.end ≡ chunks.counts.start + counts_len
-  pub rises : Each (Rises up_to) 256
+  pub whole : chunks.counts.end ≡ chunks.counts.start + 1024
+  pub rises : (byte : ℕ) → byte < 256 → bucket_start up_to byte ≤ up_to byte
   pub counted : chunks.ids.end ≡ chunks.ids.start + byte_len_of kind * up_to 255
 
 -- the bytes are read as a multi-pack-index with this layout and these names of packs: the chunks are before the digest, and the fan-out table is whole, does not

@@ -3,7 +3,7 @@ use Rattle.std.specs.Prelude.{[], ℕ, ◌++◌, ◌<◌, ◌↔◌, ◌∷◌, 
 use Rattle.std.specs.Io.KnownBytes.{Appends}
 use Rattle.std.specs.List.{AllZip}
 use Rattle.std.specs.Option.{option_map_or, option_or}
-use Rattle.id_lookup.specs.Words.{Kind, KindDigits, ObjectId, digits_read, first_byte_of, hex_len_of, hex_letter, id_digits, kind_digits, spelling}
+use Rattle.id_lookup.specs.Words.{Kind, KindDigits, ObjectId, digits_read, first_byte_of, hex_len_of, hex_letter, id_digits, spelling}
 use Rattle.streams.specs.Streams.{AppendsAtMost, AppendsBeginning}
 use Rattle.pack_index.specs.Format.{Each}
 use Rattle.object_store.specs.Several.{AreAbbreviatedOfEach, AreLocatedOfEach, AreAbbreviated}
@@ -15,7 +15,7 @@ use Rattle.object_store.specs.declared.locations.Location.TheVariants.{Loose, Pa
 use Rattle.object_store.specs.declared.abbreviations.Abbreviation.{Abbreviation}
 use Rattle.object_store.specs.declared.abbreviations.Abbreviation.TheVariants.{Ambiguous, Missing, Unique}
 use Rattle.object_store.specs.declared.abbreviations.AbbreviatedId.{AbbreviatedId}
-use Rattle.packtool_commands.specs.Files.{escape_mark, escaped}
+use Rattle.packtool_commands.specs.Files.{escape_mark, escape_of}
 use Rattle.packtool_commands.specs.declared.printing.Wanted.{Wanted}
 use Rattle.packtool_commands.specs.declared.printing.Wanted.TheVariants as forms
 use Rattle.packtool_commands.specs.declared.printing.NoAnswer.{NoAnswer}
@@ -42,7 +42,7 @@ of_two (Some prefix) = if nat_lt (length prefix.digits) 2 then None else Some pr
 
 -- the prefix that a line is: its digits in hex, in either letter case, from 2 up to as many as ids of the kind have
 abbrev pub prefix_of : Kind → List ℕ → Option KindDigits
-prefix_of kind line = if nat_lt (hex_len_of kind) (length line) then None else of_two (option_map (kind_digits kind) (digits_read hex_letter line))
+prefix_of kind line = if nat_lt (hex_len_of kind) (length line) then None else of_two (option_map (λ (digits : List ℕ). record { kind = kind; digits = digits }) (digits_read hex_letter line))
 
 -- the prefixes among lines
 abbrev pub prefixes_of : Kind → List (List ℕ) → List KindDigits
@@ -212,7 +212,7 @@ location_end None = 10 ∷ []
 
 -- the id in hex, a space, the path of the file, and the offset, after a line of a text or nothing; a backslash before all if a byte of the path is escaped
 abbrev pub location_line : Option (List ℕ) → List ℕ → List ℕ → Option ℕ → List ℕ
-location_line line id path offset = escape_mark path ++ (front_text line ++ ((spelling hex_letter id ++ 32 ∷ []) ++ (escaped path ++ location_end offset)))
+location_line line id path offset = escape_mark path ++ (front_text line ++ ((spelling hex_letter id ++ 32 ∷ []) ++ (flat_map escape_of path ++ location_end offset)))
 
 -- the lines of a location: one of a pack, and one of each file of a loose object
 abbrev pub lines_at_after : Option (List ℕ) → (ℕ → List ℕ) → List (List ℕ) → List ℕ → Location → List ℕ

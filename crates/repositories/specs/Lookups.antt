@@ -51,18 +51,14 @@ is_directory = leads_to (λ found. found.is_directory)
 abbrev pub is_file : List ℕ → Answers → Option Bool
 is_file = leads_to (λ found. found.is_file)
 
--- the number of what was found, with that of its file system
-abbrev pub file_number_in : Found → FileNumber
-file_number_in found = record { dev = found.state.dev; ino = found.state.ino }
-
--- the number of what a path leads to
+-- the number of what a path leads to, with that of its file system
 abbrev pub file_number_at : List ℕ → Answers → Option FileNumber
-file_number_at path at = option_map file_number_in (result_ok (at.look path))
+file_number_at path at = option_map (λ found. record { dev = found.state.dev; ino = found.state.ino }) (result_ok (at.look path))
 
 -- the directory that was found at a path, by the absolute path that was answered; or, if that is not UTF-8, by the path itself, with its number
 abbrev pub if_real : List ℕ → Found → Result (List ℕ) ErrorKind → Result (List ℕ × Option FileNumber) ErrorKind
 if_real path found (Ok real) = Ok (real, None)
-if_real path found (Err InvalidFilename) = Ok (path, Some (file_number_in found))
+if_real path found (Err InvalidFilename) = Ok (path, Some (record { dev = found.state.dev; ino = found.state.ino }))
 if_real path found (Err kind) = Err kind
 
 -- the directory that a path leads to, by its absolute path without links

@@ -70,9 +70,9 @@ IsSeen at look = let path = string_bytes look.path in elim look.seen [
 
 -- the text of a list of alternates, which is empty if there is none
 abbrev pub text_at : List ℕ → Answers → Option (List ℕ)
-text_at list at = state_at list at >>= λ state. elim state [
+text_at list at = if_there (at.look list) >>= λ found. elim found [
   | None ↦ Some []
-  | Some state ↦ if_there (at.bytes list) >>= λ text. Some (unwrap_or text [])
+  | Some found ↦ if_there (at.bytes list) >>= λ text. Some (unwrap_or text [])
 ]
 
 -- a walk, and the paths of a list so far, with one more path, which is relative to the directory of the list. An empty path is that directory, and one that is not UTF-8 is skipped

@@ -11,7 +11,6 @@ use Rattle.object_store.specs.declared.abbreviations.AbbreviatedId.{AbbreviatedI
 use Rattle.packtool_commands.specs.Stores.{HasAnsweredEach, IsTextOf, abbreviation_text, found_text, id_line, limit_for, located_lines, abbreviated_line}
 use Rattle.packtool_commands.specs.declared.printing.Wanted.{Wanted}
 use Rattle.streams.specs.Streams.{lines_of}
-use Rattle.store_questions.specs.WholeLines.{made_whole}
 use Rattle.store_questions.specs.declared.request.Ask.{Ask}
 use Rattle.store_questions.specs.declared.request.Ask.TheVariants as asks
 use Rattle.store_questions.specs.declared.request.Question.{Question}
@@ -41,10 +40,10 @@ pub record HasAbbreviatedAll (least : ℕ) (objects : List (List ℕ)) (old new 
   pub abbreviations : All (λ (n : AbbreviatedId). IsAbbreviationIn least objects (id_digits n.id) n.abbreviation.digits) abbreviated
   pub written : Appends old new (flat_map abbreviated_line abbreviated)
 
--- what was asked about was answered by the objects: all ids; a prefix; or each line of an input, of which it may be known what it had left
+-- what was asked about was answered by the objects: all ids; a prefix; or the lines of an input, if it is known what it had left
 abbrev pub HasWritten : Question → ℕ → Kind → List (List ℕ) → Option (List ℕ) → Ask → Option (List ℕ) → Option (List ℕ) → Type 0
 HasWritten question least kind objects known asks.All old new = HasAbbreviatedAll least objects old new
 HasWritten question least kind objects known (asks.Prefix text wanted) old new =
     HasAnsweredEach (IsAnswerTo question least wanted kind objects) (lines_of text.now) old new
 HasWritten question least kind objects known (asks.Lines wanted) old new =
-    (text : List ℕ) × IfSome known (λ all. text ≡ made_whole all) × HasAnsweredEach (IsAnswerTo question least wanted kind objects) (lines_of text) old new
+    (lines : List (List ℕ)) × IfSome known (λ text. lines ≡ lines_of text) × HasAnsweredEach (IsAnswerTo question least wanted kind objects) lines old new

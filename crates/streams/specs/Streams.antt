@@ -93,7 +93,7 @@ without_empty_last (part ∷ (next ∷ parts)) = part ∷ without_empty_last (ne
 
 -- the lines of a text without their line feeds, which the last may lack
 unfoldable pub lines_of : List ℕ → List (List ℕ)
-lines_of text = without_empty_last (slice_split is_line_feed text)
+lines_of text = without_empty_last (slice_split (λ byte. byte == 10) text)
 
 -- The lines of ids.
 

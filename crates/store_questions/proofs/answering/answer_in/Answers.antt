@@ -1,5 +1,9 @@
+use Rattle.gix_hash.proofs.Std.{◌≡◌, ◌∙◌, ℕ, IfSome_then, List, ap}
 use Rattle.std.proofs.lemmas.Result.{IfOk-weaker}
+use Rattle.streams.specs.Streams.{lines_of}
+use Rattle.store_questions.specs.WholeLines.{made_whole}
 use Rattle.store_questions.proofs.FromStores.{all_written, asked_written, of_kept}
+use Rattle.store_questions.proofs.Lines.{lines-made_whole}
 use Rattle.store_questions.proofs.Parts.{parts-written}
 use Rattle.store_questions.proofs.answering.answer_in.Goals as goal
 
@@ -25,5 +29,5 @@ returns-clause-written g c =
     rw (c.in-Lines.is, ← of.question, ← of.least, ← of.directory, ← of.rt)
     (IfOk-weaker c.answer_input.result _ _ (λ status (text, read, n, parts) low at known directories objects alternates right are.
     let query = c.in_ok-asked.asked.query in
-    (text, read, (parts-written g.R.Directories.answers query _ _ (asked_written g.R.Directories.answers query at known directories objects alternates right are _) n text _ _ _ low parts).1))
+    (lines_of text, IfSome_then _ {P = λ (all : List ℕ). text ≡ made_whole all} read (λ all is. ap lines_of is ∙ lines-made_whole all), (parts-written g.R.Directories.answers query _ _ (asked_written g.R.Directories.answers query at known directories objects alternates right are _) n text _ _ _ low parts).1))
     c.answer_input.ensures.answered)
