@@ -2,13 +2,14 @@
 use Rattle.gix_hash.proofs.Std.{◌≡◌, ℕ, ◌+◌, ◌-◌, ◌<◌, ◌≤◌, Bool, true, nat_eq, Some, List, [], ◌++◌, length, get_or, drop, refl, sym, ap, ◌∙◌, subst, arith, slice_range, append-nil, append_assoc, length-take, filter-append, false_from_ne_true, starts_with}
 use Rattle.std.specs.Option.{ForSome}
 use Rattle.id_lookup.specs.Words.{IsSortedIds, first_byte_of, matches}
+use Rattle.id_lookup.specs.declared.search.Run.{Run}
 use Rattle.id_lookup.proofs.Beginnings.{first_byte_of-begins, matches-part}
 use Rattle.id_lookup.proofs.Filtering.{filter_none}
 use Rattle.id_lookup.proofs.Filters.{filter_within}
 use Rattle.id_lookup.proofs.Spelled.{starts_with-BeginsWith}
 use Rattle.pack_index.proofs.Buckets.{counted_all}
 use Rattle.pack_index.proofs.Ranges.{length-range, range_at, split}
-use Rattle.pack_index.specs.Lazy.{AreAmong, AreBetween, BucketIds, HasBucket, HaveFirstByte, IsNarrowed, IsOrdered, IsPartOf, IndexView, Tables, bucket_start, counted_with}
+use Rattle.pack_index.specs.Lazy.{AreAmong, AreBetween, AreWithin, BucketIds, HasBucket, HaveFirstByte, IsOrdered, IsPartOf, IndexView, Tables, bucket_start, counted_with}
 
 -- what begins with the digits in a part is what does of all that are counted with their first byte
 module _ (digits : List ℕ) (counted before names after : List (List ℕ)) (all : counted ≡ before ++ (names ++ after)) (none : matches digits before ≡ []) (none_after : matches digits after ≡ []) where
@@ -71,6 +72,12 @@ none : (digits : List ℕ) (names : List (List ℕ)) (a b : ℕ) → ((k : ℕ) 
 none digits names a b never = filter_none (λ id. starts_with nat_eq id digits) (slice_range names a b) (λ k d less.
     false_from_ne_true _ (λ passes. never (a + k) (omega arith) (omega (arith, length-take (b - a) (drop a names), less))
     (sym (ap (λ (id : List ℕ). starts_with nat_eq id digits) (range_at names a b k d [] less)) ∙ passes)))
+
+-- a part of the positions that the fan-out table counts with the first byte of the digits, and of all that begin with the digits if these ids are sorted
+pub record IsNarrowed (tables : Tables) (digits : List ℕ) (part : Run) : Type 0 where
+  pub from : bucket_start tables.up_to (first_byte_of digits) ≤ part.start
+  pub to : part.end ≤ tables.up_to (first_byte_of digits)
+  pub all : AreWithin tables.ids digits (bucket_start tables.up_to (first_byte_of digits)) (tables.up_to (first_byte_of digits)) part.start part.end
 
 -- so ids that were read between two positions by which a bucket that was found sorted was narrowed are a part, too
 pub narrowed_part : (index : IndexView) (digits : List ℕ) (from to : ℕ) (part : BucketIds) → AreBetween index (first_byte_of digits) from to part → to ≤ index.count

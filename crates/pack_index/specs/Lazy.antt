@@ -4,7 +4,6 @@ use Rattle.std.specs.List.{position, starts_with}
 use Rattle.std.specs.Option.{ForSome}
 use Rattle.id_digits.specs.Digits.{word}
 use Rattle.id_lookup.specs.Words.{IsSortedIds, Kind, byte_len_of, first_byte_of, has_first_byte, is_up_to, matches}
-use Rattle.id_lookup.specs.declared.search.Run.{Run}
 use Rattle.pack_index.specs.Format.{Each, HasHead, HasTables, IsFirstNot, IsHeadFault, digests_in, is_long, long_entry, ids_in, ids_start, num_objects, offset_in, tables_end, word_at}
 use Rattle.pack_index.specs.declared.front.Front.{Front}
 use Rattle.pack_index.specs.declared.layout.IdTable.{IdTable}
@@ -152,12 +151,6 @@ BeginWithin names digits start end from to =
 -- if the ids from one position to another are sorted, they begin with the digits only between two others
 abbrev pub AreWithin : List (List ℕ) → List ℕ → ℕ → ℕ → ℕ → ℕ → Type 0
 AreWithin names digits start end from to = IsSortedIds (slice_range names start end) → BeginWithin names digits start end from to
-
--- a part of the positions that the fan-out table counts with the first byte of the digits, and of all that begin with the digits if these ids are sorted
-pub record IsNarrowed (tables : Tables) (digits : List ℕ) (part : Run) : Type 0 where
-  pub from : bucket_start tables.up_to (first_byte_of digits) ≤ part.start
-  pub to : part.end ≤ tables.up_to (first_byte_of digits)
-  pub all : AreWithin tables.ids digits (bucket_start tables.up_to (first_byte_of digits)) (tables.up_to (first_byte_of digits)) part.start part.end
 
 -- they are, of the ids that the fan-out table counts with the first byte of the digits, all from one position to another, and those before and after them do not
 -- begin with the digits; and if the table is right, no other id of the pack index does

@@ -4,7 +4,7 @@ ghost use Rattle.std.specs.Prelude.{◌≡◌, ◌≢◌, ◌↔◌, ◌-◌, �
 ghost use Rattle.std.specs.Option.{ForSome};
 ghost use Rattle.id_lookup.specs.Words.{byte_len_of, first_byte_of, has_first_byte, hex_len_of, oid_digits};
 ghost use Rattle.pack_index.specs.Format.{Each, HasHead, HasTables, IsFirstIndexOf, digests_in, offset_word};
-ghost use Rattle.pack_index.specs.Lazy.{AreBetween, HaveRightCounts, HaveFirstByte, IsBucketFault, IsNarrowed, IsOffsetFault, IsOpenFault, IsOrdered, IsPartOf, IsReadOrMemory, IsRunFault, Rises, bucket_start, end_of, fan_out, ids_of, position_of, seen, tables_of};
+ghost use Rattle.pack_index.specs.Lazy.{AreBetween, HaveRightCounts, HaveFirstByte, IsBucketFault, IsOffsetFault, IsOpenFault, IsOrdered, IsPartOf, IsReadOrMemory, IsRunFault, Rises, bucket_start, end_of, fan_out, ids_of, position_of, seen, tables_of};
 ghost use Rattle.pack_index.specs.Multi.{IsReadAsMulti};
 ghost use Rattle.pack_index.specs.declared.layout.Layout.{Layout};
 ghost use Rattle.pack_index.specs.declared.layout.Layout.TheVariants.{Index};
@@ -221,11 +221,16 @@ impl<S: ReadAt + Drop> LazyFile<S> {
             self.old.can_fail tables (first_byte_of prefix.now.digits) e)) }
     {
         let byte = prefix.first_byte();
-        if prefix.hex_len() == 2 || !self.reads_part(byte, few) {
-            return self.read_whole(alloc, byte);
+        let run = self.run_of(byte);
+        if prefix.hex_len() > 2 && self.reads_part(byte, few) {
+            let part = narrowed(&self.source, self.ids(), prefix, run)?;
+            return self.read_run(alloc, byte, &part);
         }
-        let part = self.narrowed(prefix)?;
-        self.read_run(alloc, byte, &part)
+        let bucket = self.read_run(alloc, byte, &run)?;
+        if bucket.is_sorted() {
+            self.ordered[usize::from(byte)] = true;
+        }
+        Ok(bucket)
     }
 
     /// The position of an id, the first one if it occurs more than once, or `None` if it does not
@@ -306,38 +311,6 @@ impl<S: ReadAt + Drop> LazyFile<S> {
         bucket_range(&self.head, byte, byte)
     }
 
-    // Reads all ids with a first byte, and notes whether they are sorted.
-    #[inline(always)]
-    fn read_whole<A: Allocator>(&mut self, alloc: A, byte: u8) -> Result<Bucket<A>, LazyError>
-        ensures same { self.new ≡ self.old }
-        ensures part { IfOk result (λ bucket. (digits : List ℕ) → 2 ≤ length digits
-            → first_byte_of digits ≡ byte → IsPartOf (seen self.old) digits bucket) }
-        ensures err { IfErr result (λ e. ForSome (seen self.old).tables (λ tables.
-            IsBucketFault self.old.can_fail tables byte e)) }
-    {
-        let run = self.run_of(byte);
-        let bucket = self.read_run(alloc, byte, &run)?;
-        if bucket.is_sorted() {
-            self.ordered[usize::from(byte)] = true;
-        }
-        Ok(bucket)
-    }
-
-    // A run of the ids with a prefix's first byte that has all that begin with the prefix, if they
-    // are sorted.
-    fn narrowed(&self, prefix: &Prefix) -> Result<Run, LazyError>
-        requires { length prefix.now.digits ≤ hex_len_of self.now.kind }
-        ensures in_order { IfOk result (λ part. part.start ≤ part.end) }
-        ensures inside { IfOk result (λ part. part.end ≤ self.now.count) }
-        ensures all { IfOk result (λ part. ForSome (seen self.now).tables (λ tables.
-            IsNarrowed tables prefix.now.digits part)) }
-        ensures err { IfErr result (λ e. ForSome (seen self.now).tables (λ _.
-            IsReadOrMemory self.now.can_fail e)) }
-    {
-        let run = self.run_of(prefix.first_byte());
-        Ok(narrowed(&self.source, self.ids(), prefix, run)?)
-    }
-
     // Reads the ids of a run, which must have a first byte.
     #[inline(always)]
     fn read_run<A: Allocator>(&self, alloc: A, byte: u8, run: &Run) -> Result<Bucket<A>, LazyError>
@@ -348,35 +321,17 @@ impl<S: ReadAt + Drop> LazyFile<S> {
         ensures err { IfErr result (λ e. ForSome (seen self.now).tables (λ tables. IsRunFault
             self.now.can_fail (slice_range tables.ids run.now.start run.now.end) byte e)) }
     {
-        // Its contract says of which kind the ids are.
-        let kind = self.object_hash();
-        if run.start == run.end {
-            return Ok(Bucket::new(Vec::new(alloc), kind, run.start));
-        }
-        let table = self.read_ids(alloc, run)?;
-        if !have_first_byte(&table, kind, byte) {
-            return Err(LazyError::WrongCount(byte));
-        }
-        Ok(Bucket::new(table, kind, run.start))
-    }
-
-    // The ids of a run, one after the other.
-    fn read_ids<A: Allocator>(&self, alloc: A, run: &Run) -> Result<Vec<u8, A>, LazyError>
-        requires in_order { run.now.start ≤ run.now.end }
-        requires inside { run.now.end ≤ self.now.count }
-        ensures ids { IfOk result (λ table. ForSome (seen self.now).tables (λ tables.
-            digests_in self.now.kind table.items
-            ≡ slice_range tables.ids run.now.start run.now.end)) }
-        ensures len { IfOk result (λ table. length table.items
-            ≡ byte_len_of self.now.kind * (run.now.end - run.now.start)) }
-        ensures err { IfErr result (λ e. ForSome (seen self.now).tables (λ _.
-            IsReadOrMemory self.now.can_fail e)) }
-    {
         let ids = self.ids();
+        if run.start == run.end {
+            return Ok(Bucket::new(Vec::new(alloc), ids.kind, run.start));
+        }
         let mut table = vec![in alloc; 0; ids_len(ids.kind, run.end - run.start)]?;
         self.source
             .read_exact_at(&mut table, ids.start_of(run.start))?;
-        Ok(table)
+        if !have_first_byte(&table, ids.kind, byte) {
+            return Err(LazyError::WrongCount(byte));
+        }
+        Ok(Bucket::new(table, ids.kind, run.start))
     }
 
     // Where the ids are.

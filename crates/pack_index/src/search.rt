@@ -48,54 +48,13 @@ pub(crate) fn narrowed<S: ReadAt>(
         let Some(at) = positions.next(&part) else {
             break;
         };
-        let len = part.end - part.start;
-        part = cut(source, ids, prefix, &front, part, at)?;
-        if part.end - part.start == len {
-            positions.found(at);
+        match place_at(source, ids, prefix, &front, at)? {
+            Ordering::Greater => part.start = at + 1,
+            Ordering::Less => part.end = at,
+            Ordering::Equal => positions.found(at),
         }
     }
     Ok(part)
-}
-
-// A part of a sorted run without the ids on that side of a position on which none begins with a
-// prefix.
-fn cut<S: ReadAt>(
-    source: &S,
-    ids: IdTable,
-    prefix: &Prefix,
-    front: &Front,
-    part: Run,
-    at: usize,
-) -> io::Result<Run>
-    requires front { AreFront (take 16 prefix.now.digits) front.now }
-    requires fits { length prefix.now.digits ≤ hex_len_of ids.kind }
-    requires inside { part.end ≤ ids.count }
-    requires room { end_of ids < 2 ^ 64 }
-    requires above { part.start ≤ at }
-    requires below { at < part.end }
-    requires known { (bytes : List ℕ) → S.content source.now ≡ Some bytes
-        → end_of ids ≤ length bytes }
-    ensures from { IfOk result (λ cut. part.start ≤ cut.start) }
-    ensures in_order { IfOk result (λ cut. cut.start ≤ cut.end) }
-    ensures to { IfOk result (λ cut. cut.end ≤ part.end) }
-    ensures all { IfOk result (λ cut. (bytes : List ℕ) → S.content source.now ≡ Some bytes
-        → (start end : ℕ) → start ≤ part.start → part.end ≤ end → end ≤ ids.count
-        → AreWithin (ids_of ids bytes) prefix.now.digits start end part.start part.end
-        → AreWithin (ids_of ids bytes) prefix.now.digits start end cut.start cut.end) }
-    ensures err { OnErr result ((bytes : List ℕ) → S.content source.now ≡ Some bytes
-        → IsTrue (S.can_fail source.now)) }
-{
-    match place_at(source, ids, prefix, front, at)? {
-        Ordering::Greater => Ok(Run {
-            start: at + 1,
-            end: part.end,
-        }),
-        Ordering::Less => Ok(Run {
-            start: part.start,
-            end: at,
-        }),
-        Ordering::Equal => Ok(part),
-    }
 }
 
 // How a prefix compares with the id at a position. The whole id is read only if its first 8 bytes
