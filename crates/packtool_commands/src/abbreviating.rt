@@ -191,13 +191,14 @@ impl AnswerForm<Abbreviation> for AbbreviationForm {
     fn write<W: Sink>(
         &self,
         line: &[u8],
-        found: &Abbreviation,
+        found: Option<&Abbreviation>,
         out: &mut W,
     ) -> Result<(), WriteFailed> {
         match found {
-            Abbreviation::Missing => write_two(line, b" missing\n", out),
-            Abbreviation::Ambiguous => write_two(line, b" ambiguous\n", out),
-            Abbreviation::Unique(abbreviated) => {
+            None => write_two(line, b" bad\n", out),
+            Some(Abbreviation::Missing) => write_two(line, b" missing\n", out),
+            Some(Abbreviation::Ambiguous) => write_two(line, b" ambiguous\n", out),
+            Some(Abbreviation::Unique(abbreviated)) => {
                 let prefix = &abbreviated.abbreviation;
                 // The contract of this call says how many digits the prefix has at most.
                 let _hex_len = prefix.hex_len();
@@ -207,11 +208,12 @@ impl AnswerForm<Abbreviation> for AbbreviationForm {
         }
     }
 
-    fn no_answer(&self, found: &Abbreviation) -> Option<NoAnswer> {
+    fn no_answer(&self, found: Option<&Abbreviation>) -> Option<NoAnswer> {
         match found {
-            Abbreviation::Missing => Some(NoAnswer::Missing),
-            Abbreviation::Ambiguous => Some(NoAnswer::Ambiguous),
-            Abbreviation::Unique(_) => None,
+            None => Some(NoAnswer::Bad),
+            Some(Abbreviation::Missing) => Some(NoAnswer::Missing),
+            Some(Abbreviation::Ambiguous) => Some(NoAnswer::Ambiguous),
+            Some(Abbreviation::Unique(_)) => None,
         }
     }
 }

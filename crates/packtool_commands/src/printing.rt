@@ -72,15 +72,17 @@ pub(crate) trait AnswerForm<T> {
     /// Why what was found is not an answer, or `None` if it is one.
     ghost no_answer: { Self → T → Option NoAnswer };
 
-    /// Writes what is printed for a line that is a prefix.
-    fn write<W: Sink>(&self, line: &[u8], found: &T, out: &mut W) -> Result<(), WriteFailed>
+    /// Writes what is printed for a line, by what was found if it is a prefix.
+    fn write<W: Sink>(&self, line: &[u8], found: Option<&T>, out: &mut W) -> Result<(), WriteFailed>
         requires { W.has_failed out.old ≡ false }
         ensures { Wrote W.taken W.has_failed out.old out.new result
-            (text self.now line.now found.now) };
+            (answer_of (text self.now) (line.now, option_copied found.entry)) };
 
-    /// Returns why what was found is not an answer, or `None` if it is one.
-    fn no_answer(&self, found: &T) -> Option<NoAnswer>
-        ensures { result ≡ no_answer self.now found.now };
+    /// Returns why a line has no answer, by what was found if it is a prefix, or `None` if it has
+    /// one.
+    fn no_answer(&self, found: Option<&T>) -> Option<NoAnswer>
+        ensures { result ≡ option_map_or (no_answer self.now) (option_copied found.entry)
+            (Some NoAnswer.Bad) };
 }
 
 /// Writes what is printed for each of some lines, by what was found for each prefix among them.
@@ -105,8 +107,8 @@ pub(crate) fn write_answers<T, A: Allocator, F: AnswerForm<T>, W: Sink>(
     let mut left = found;
     for line in &lines.lines {
         let (answer, after) = answer_to(line, left);
-        write_answer(line.text, answer, form, out)?;
-        why = why.or(no_answer_in(answer, form));
+        form.write(line.text, answer, out)?;
+        why = why.or(form.no_answer(answer));
         left = after;
     }
     Ok(why)
@@ -122,34 +124,6 @@ fn answer_to<'f, T>(line: &Line<'_>, found: &'f [T]) -> (Option<&'f T>, &'f [T])
         (Some(&found[0]), &found[1..])
     } else {
         (None, found)
-    }
-}
-
-// Writes what is printed for a line, by what was found if it is a prefix.
-fn write_answer<T, F: AnswerForm<T>, W: Sink>(
-    line: &[u8],
-    answer: Option<&T>,
-    form: &F,
-    out: &mut W,
-) -> Result<(), WriteFailed>
-    requires { W.has_failed out.old ≡ false }
-    ensures { Wrote W.taken W.has_failed out.old out.new result
-        (answer_of (F.text form.now) (line.now, option_copied answer.entry)) }
-{
-    match answer {
-        Some(found) => form.write(line, found, out),
-        None => write_two(line, b" bad\n", out),
-    }
-}
-
-// Why a line has no answer, by what was found for it if it is a prefix, or `None` if it has one.
-fn no_answer_in<T, F: AnswerForm<T>>(answer: Option<&T>, form: &F) -> Option<NoAnswer>
-    ensures { result ≡ option_map_or (F.no_answer form.now) (option_copied answer.entry)
-        (Some NoAnswer.Bad) }
-{
-    match answer {
-        Some(found) => form.no_answer(found),
-        None => Some(NoAnswer::Bad),
     }
 }
 
@@ -187,9 +161,12 @@ impl<X, A: Allocator, F: ItemForm<X>> AnswerForm<Vec<X, A>> for ListForm<F> {
     fn write<W: Sink>(
         &self,
         line: &[u8],
-        found: &Vec<X, A>,
+        found: Option<&Vec<X, A>>,
         out: &mut W,
     ) -> Result<(), WriteFailed> {
+        let Some(found) = found else {
+            return write_two(line, b" bad\n", out);
+        };
         if found.is_empty() {
             if matches!(self.wanted, Wanted::Bare | Wanted::BareOne) {
                 return Ok(());
@@ -207,7 +184,10 @@ impl<X, A: Allocator, F: ItemForm<X>> AnswerForm<Vec<X, A>> for ListForm<F> {
         }
     }
 
-    fn no_answer(&self, found: &Vec<X, A>) -> Option<NoAnswer> {
+    fn no_answer(&self, found: Option<&Vec<X, A>>) -> Option<NoAnswer> {
+        let Some(found) = found else {
+            return Some(NoAnswer::Bad);
+        };
         if found.is_empty() {
             return Some(NoAnswer::Missing);
         }

@@ -11,9 +11,9 @@ use Rattle.packtool_commands.proofs.printing.write_answers.Goals as goal
 pub loop-line-init : goal.loop-line-init
 loop-line-init g c = record { before = []; parts = refl; written = search rules; first = refl; not_failed = c.requires }
 
-pub returns-in_err-write_answer-clause-part : goal.returns-in_err-write_answer-clause-part
+pub returns-in_err-write-clause-part : goal.returns-in_err-write-clause-part
 unfolding answers_by
-returns-in_err-write_answer-clause-part g c =
+returns-in_err-write-clause-part g c =
     let text = answer_of (g.F.AnswerForm.text c.args.form.now) in
     let i = c.loop-line.invariant in
     let at = c.loop-line.line-index in
@@ -23,10 +23,10 @@ returns-in_err-write_answer-clause-part g c =
     let more = with_found rest c.answer_to.result.1.now in
     let step = ap (λ ls. with_found (map mark ls) c.loop-line.left.now) (drop_more seen at _ c.loop-line-test.true) ∙ c.answer_to.ensures rest in
     let all = ap (λ ls. i.before ++ with_found (map mark (drop at ls)) c.loop-line.left.now) same ∙ i.parts ∙ ap (λ ls. with_found ls c.args.found.now) c.args.lines.now.are_lines in
-    OnErr-of _ _ (subst (AppendsBeginning (g.W.Sink.taken c.args.out.now) (g.W.Sink.taken c.write_answer.new.out))
+    OnErr-of _ _ (subst (AppendsBeginning (g.W.Sink.taken c.args.out.now) (g.W.Sink.taken c.write.new.out))
     (sym (flat_map-append text i.before (_ ∷ more)) ∙ ap (flat_map text) (ap (λ ls. i.before ++ ls) (sym step) ∙ all))
     (AppendsBeginning-after _ (g.W.Sink.taken c.loop-line.out) _ (flat_map text i.before) _ i.written
-    (AppendsBeginning-more _ _ _ (flat_map text more) c.in_err-write_answer.ensures.part)))
+    (AppendsBeginning-more _ _ _ (flat_map text more) c.in_err-write.ensures.part)))
 
 pub returns-clause-written : goal.returns-clause-written
 unfolding answers_by
@@ -61,9 +61,9 @@ loop-line-preserved g c =
       before = i.before ++ answer ∷ [];
       parts = append_assoc i.before (answer ∷ []) _ ∙ ap (λ ls. i.before ++ answer ∷ with_found (map mark (drop (at + 1) ls)) c.answer_to.result.1.now) (sym same)
           ∙ ap (λ ls. i.before ++ ls) (sym step) ∙ ap (λ ls. i.before ++ with_found (map mark (drop at ls)) c.loop-line.left.now) same ∙ i.parts;
-      written = subst (Appends (g.W.Sink.taken c.args.out.now) (g.W.Sink.taken c.write_answer.new.out)) (flat_map_more text [] i.before answer)
-          (Appends-trans _ _ _ (flat_map text i.before) (text answer) i.written c.in_ok-write_answer.ensures.written);
-      first = c.or-why.ensures ∙ ap (λ why. option_or why c.no_answer_in.result) i.first ∙ ap (option_or (fold later None i.before)) c.no_answer_in.ensures
+      written = subst (Appends (g.W.Sink.taken c.args.out.now) (g.W.Sink.taken c.write.new.out)) (flat_map_more text [] i.before answer)
+          (Appends-trans _ _ _ (flat_map text i.before) (text answer) i.written c.in_ok-write.ensures.written);
+      first = c.or-why.ensures ∙ ap (λ why. option_or why c.no_answer.result) i.first ∙ ap (option_or (fold later None i.before)) c.no_answer.ensures
           ∙ sym (fold-append later None i.before (answer ∷ []));
-      not_failed = c.in_ok-write_answer.ensures.not_failed;
+      not_failed = c.in_ok-write.ensures.not_failed;
     }
