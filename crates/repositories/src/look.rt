@@ -1,6 +1,6 @@
 //! What a walk over object directories sees at paths, to know whether it is there still.
 
-ghost use Rattle.std.specs.Prelude.{ℕ, ◌≡◌, ◌⊎◌, ◌++◌, IfSome, IsSomeAnd, IsTrue, List, Some, string_bytes};
+ghost use Rattle.std.specs.Prelude.{ℕ, ◌≡◌, ◌⊎◌, ◌∷◌, ◌++◌, IfSome, IsSomeAnd, IsTrue, List, Some, string_bytes};
 ghost use Rattle.repositories.specs.Answers.{IfKnown};
 ghost use Rattle.repositories.specs.Walks.{IsSeen, state_at};
 
@@ -73,7 +73,7 @@ impl AbovePaths {
     // Whether a path leads into what is missing.
     fn is_missing(&self, path: &str) -> bool
         ensures { IsTrue result → (below : List ℕ)
-            × (path.now ≡ string_bytes self.now.missing ++ below) }
+            × (path.now ≡ string_bytes self.now.missing ++ 47 ∷ below) }
     {
         match path.strip_prefix(self.missing.as_str()) {
             Some(below) => !self.missing.is_empty() && below.starts_with('/'),
