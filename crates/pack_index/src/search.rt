@@ -77,44 +77,23 @@ fn place_at<S: ReadAt>(
     ensures err { OnErr result ((bytes : List ℕ) → S.content source.now ≡ Some bytes
         → IsTrue (S.can_fail source.now)) }
 {
-    let mut first = [0; 8];
-    source.read_exact_at(&mut first, ids.start_of(at))?;
-    match front.place(&first) {
-        Ordering::Equal => whole_place_at(source, ids, prefix, at),
-        order => Ok(order),
-    }
-}
-
-// How a prefix compares with the id at a position, all of which is read.
-#[inline(never)]
-fn whole_place_at<S: ReadAt>(
-    source: &S,
-    ids: IdTable,
-    prefix: &Prefix,
-    at: usize,
-) -> io::Result<Ordering>
-    requires fits { length prefix.now.digits ≤ hex_len_of ids.kind }
-    requires inside { at < ids.count }
-    requires room { end_of ids < 2 ^ 64 }
-    requires known { (bytes : List ℕ) → S.content source.now ≡ Some bytes
-        → end_of ids ≤ length bytes }
-    ensures place { IfOk result (λ o. (bytes : List ℕ) → S.content source.now ≡ Some bytes
-        → o ≡ place prefix.now.digits (slice_index_or (ids_of ids bytes) at [])) }
-    ensures err { OnErr result ((bytes : List ℕ) → S.content source.now ≡ Some bytes
-        → IsTrue (S.can_fail source.now)) }
-{
     let start = ids.start_of(at);
-    match ids.kind {
-        Kind::Sha1 => {
-            let mut id = [0; 20];
-            source.read_exact_at(&mut id, start)?;
-            Ok(prefix.cmp_oid(Id::as_oid(&id)))
-        }
-        Kind::Sha256 => {
-            let mut id = [0; 32];
-            source.read_exact_at(&mut id, start)?;
-            Ok(prefix.cmp_oid(Id::as_oid(&id)))
-        }
+    let mut first = [0; 8];
+    source.read_exact_at(&mut first, start)?;
+    match front.place(&first) {
+        Ordering::Equal => match ids.kind {
+            Kind::Sha1 => {
+                let mut id = [0; 20];
+                source.read_exact_at(&mut id, start)?;
+                Ok(prefix.cmp_oid(Id::as_oid(&id)))
+            }
+            Kind::Sha256 => {
+                let mut id = [0; 32];
+                source.read_exact_at(&mut id, start)?;
+                Ok(prefix.cmp_oid(Id::as_oid(&id)))
+            }
+        },
+        order => Ok(order),
     }
 }
 
