@@ -3,7 +3,7 @@
 ghost use Rattle.std.specs.Prelude.{◌≡◌, ◌-◌, ◌<◌, ◌≤◌, ℕ, All, IfErr, IfNone, IfOk, IfSome, List, SomeIff, length};
 ghost use Rattle.std.specs.List.{AllZip, sum_by};
 ghost use Rattle.id_lookup.specs.Words.{KindDigits, first_byte_of, hex_len_of};
-ghost use Rattle.object_store.specs.Several.{AreFirstMatches, AreLocated, AreAbbreviated, IsAbbreviated, IsLocationsFault, id_count, location_count};
+ghost use Rattle.object_store.specs.Several.{AreLocated, AreAbbreviated, IsAbbreviated, IsLocationsFault, id_count, location_count};
 ghost use Rattle.object_store.specs.Stores.{AreMatches, ArePlaces, CanLookUp, HaveMore, IsListed, IsOfOne, IsStoreFault, StoreView};
 ghost use Rattle.object_store.specs.declared.error.Error.{Error as StoreError};
 
@@ -92,48 +92,31 @@ pub fn look_up_each<S: Store, A: Allocator + Copy, L: LookUp<S, A>>(
     ensures err { IfErr result (IsOfOne (L.fails look_up.now (S.view store.old))
         prefixes.now) }
 {
-    let mut parts = Parts::for_many(alloc, store, prefixes.len());
-    let found = look_up_in_order(alloc, &mut parts, prefixes, most, look_up);
-    // The contract of this call says that the store is as it was.
-    let _store = parts.into_store();
-    found
-}
-
-// Does the same with a cursor, which looks up the prefixes sorted.
-fn look_up_in_order<S: Store, A: Allocator + Copy, L: LookUp<S, A>>(
-    alloc: A,
-    parts: &mut Parts<'_, S, A>,
-    prefixes: &[Prefix],
-    most: usize,
-    look_up: &L,
-) -> Result<Option<Vec<L::Found, A>>, Error>
-    requires can { All (CanLookUp (S.view parts.old.now)) prefixes.now }
-    requires fits { L.fits look_up.now (S.view parts.old.now) }
-    ensures store { parts.new ≡ parts.old }
-    ensures found { IfOk result (λ found. IfSome found (λ found. AllZip
-        (λ (prefix : KindDigits) one. L.finds look_up.now parts.old.now prefix.digits one)
-        prefixes.now found.items)) }
-    ensures several { IfOk result (λ found. IfNone found (1 < length prefixes.now)) }
-    ensures more { IfOk result (λ found. IfNone found (HaveMore
-        (L.finds look_up.now parts.old.now) L.size most prefixes.now)) }
-    ensures few { IfOk result (λ found. IfSome found (λ found. 1 < length prefixes.now
-        → sum_by L.size found.items ≤ most)) }
-    ensures err { IfErr result (IsOfOne (L.fails look_up.now (S.view parts.old.now))
-        prefixes.now) }
-{
     let places = in_order(alloc, prefixes)?;
     let mut found = placeholders(alloc, prefixes, look_up)?;
     let mut room = most;
+    // Each return gives the store back: the contract of that call says that it is as it was.
+    let mut parts = Parts::for_many(alloc, store, prefixes.len());
     for place in 0..places.len() {
         let at = places[place].1;
-        let one = look_up.look_up(parts, &prefixes[at])?;
+        let one = match look_up.look_up(&mut parts, &prefixes[at]) {
+            Ok(one) => one,
+            Err(error) => {
+                let _store = parts.into_store();
+                return Err(error);
+            }
+        };
         match look_up.left(&one, room) {
             Some(left) => room = left,
-            None if prefixes.len() > 1 => return Ok(None),
+            None if prefixes.len() > 1 => {
+                let _store = parts.into_store();
+                return Ok(None);
+            }
             None => {}
         }
         found[at] = one;
     }
+    let _store = parts.into_store();
     Ok(Some(found))
 }
 
@@ -228,34 +211,6 @@ pub trait LookUp<S: Store, A: Allocator + Copy> {
 pub struct Matching {
     /// How many ids of a prefix are returned at most, from the first on, or `None` for all of them.
     pub limit: Option<usize>,
-}
-
-impl<S: Store, A: Allocator + Copy> LookUp<S, A> for Matching {
-    type Found = Vec<ObjectId, A>;
-
-    ghost fits = { λ _ _. Unit {0} };
-
-    ghost finds = { λ it store digits ids. AreFirstMatches it.limit (S.view store) digits ids };
-
-    ghost fails = { λ _ view digits error. IsStoreFault view (first_byte_of digits) error };
-
-    ghost size = { λ ids. length ids.items };
-
-    fn placeholder(&self, alloc: A) -> Vec<ObjectId, A> {
-        Vec::new(alloc)
-    }
-
-    fn look_up(
-        &self,
-        parts: &mut Parts<'_, S, A>,
-        prefix: &Prefix,
-    ) -> Result<Vec<ObjectId, A>, Error> {
-        parts.lookup_first(prefix, self.limit)
-    }
-
-    fn left(&self, ids: &Vec<ObjectId, A>, room: usize) -> Option<usize> {
-        room.checked_sub(ids.len())
-    }
 }
 
 /// Looks up the ids that begin with a prefix, with their locations, as [`Parts::locate_prefix`]

@@ -10,6 +10,7 @@ ghost use Rattle.pack_index.specs.Lazy.{BucketIds};
 use crate::abbreviations::{Abbreviation, abbreviation_in};
 use crate::error::Error;
 use crate::locations::{LocatedId, Location, locate_in};
+use crate::look_ups::{LookUp, Matching};
 use crate::store::{Store, StorePaths, beginning_with};
 use gix_hash::{Kind, ObjectId, Prefix};
 use id_lookup::sort_unique;
@@ -137,31 +138,6 @@ impl<'s, S: Store, A: Allocator + Copy> Parts<'s, S, A> {
         let ids = matches_in(self.alloc, &*self.store, &part.buckets, prefix);
         self.part = Some(part);
         Ok(ids?)
-    }
-
-    // The same ids up to a limit, or all if there is no limit. Up to a limit they are found by
-    // binary search among all ids with the same first digits.
-    pub(crate) fn lookup_first(
-        &mut self,
-        prefix: &Prefix,
-        limit: Option<usize>,
-    ) -> Result<Vec<ObjectId, A>, Error>
-        requires { CanLookUp (S.view self.old.now) prefix.now }
-        ensures store { self.new ≡ self.old }
-        ensures first { IfOk result (AreFirstMatches limit (S.view self.old.now)
-            prefix.now.digits) }
-        ensures err { IfErr result (IsStoreFault (S.view self.old.now)
-            (first_byte_of prefix.now.digits)) }
-    {
-        let Some(_) = limit else {
-            return self.lookup_prefix(prefix);
-        };
-        // The contract of this call says how many digits the prefix has at most.
-        let _hex_len = prefix.hex_len();
-        let front = self.take_front(front_of(prefix, FRONT_DIGITS))?;
-        let first = limited_to(beginning_with(&front.ids, prefix), limit).to_vec(self.alloc);
-        self.front = Some(front);
-        Ok(first?)
     }
 
     /// The abbreviation of an id in the store, of at least `least` digits, or `None` if the store
@@ -312,7 +288,7 @@ impl<'s, S: StorePaths, A: Allocator + Copy> Parts<'s, S, A> {
         ensures err { IfErr result (IsLocationsFault limit (S.view self.old.now)
             prefix.now.digits) }
     {
-        let first = self.lookup_first(prefix, limit)?;
+        let first = Matching { limit }.look_up(self, prefix)?;
         let mut located = Vec::with_capacity(self.alloc, first.len())?;
         for id in &first {
             let locations = self.locate(id)?;
@@ -325,6 +301,43 @@ impl<'s, S: StorePaths, A: Allocator + Copy> Parts<'s, S, A> {
             push(&mut located, one)?;
         }
         Ok(located)
+    }
+}
+
+impl<S: Store, A: Allocator + Copy> LookUp<S, A> for Matching {
+    type Found = Vec<ObjectId, A>;
+
+    ghost fits = { λ _ _. Unit {0} };
+
+    ghost finds = { λ it store digits ids. AreFirstMatches it.limit (S.view store) digits ids };
+
+    ghost fails = { λ _ view digits error. IsStoreFault view (first_byte_of digits) error };
+
+    ghost size = { λ ids. length ids.items };
+
+    fn placeholder(&self, alloc: A) -> Vec<ObjectId, A> {
+        Vec::new(alloc)
+    }
+
+    fn look_up(
+        &self,
+        parts: &mut Parts<'_, S, A>,
+        prefix: &Prefix,
+    ) -> Result<Vec<ObjectId, A>, Error> {
+        let Some(_) = self.limit else {
+            return parts.lookup_prefix(prefix);
+        };
+        // The contract of this call says how many digits the prefix has at most.
+        let _hex_len = prefix.hex_len();
+        // Up to a limit they are found by binary search among all with the same first digits.
+        let front = parts.take_front(front_of(prefix, FRONT_DIGITS))?;
+        let first = limited_to(beginning_with(&front.ids, prefix), self.limit).to_vec(parts.alloc);
+        parts.front = Some(front);
+        Ok(first?)
+    }
+
+    fn left(&self, ids: &Vec<ObjectId, A>, room: usize) -> Option<usize> {
+        room.checked_sub(ids.len())
     }
 }
 
