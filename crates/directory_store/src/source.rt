@@ -134,7 +134,8 @@ impl<R: Files<File = File> + AllocGlobal + Clone> StoreFile<R> {
             kept: RefCell::new(Kept::nothing(rt.alloc())),
         };
         if !stays_open {
-            source.keep(0, source.window)?;
+            // So a closed file keeps its beginning.
+            source.read_more(&mut [], 0)?;
             source.file = None;
         }
         Ok(source)
@@ -142,18 +143,6 @@ impl<R: Files<File = File> + AllocGlobal + Clone> StoreFile<R> {
 }
 
 impl<R: Files<File = File>> StoreFile<R> {
-    // Reads and keeps at most `most` bytes from a position on, instead of those that were kept. If
-    // memory runs out, it reads and keeps none.
-    fn keep(&self, start: u64, most: usize) -> io::Result<()> {
-        let len = self.len.saturating_sub(start).min(most as u64) as usize;
-        let Some(mut bytes) = self.take_room(len) else {
-            return Ok(());
-        };
-        self.read(&mut bytes, start)?;
-        let _ = self.kept.try_replace(Kept { start, bytes });
-        Ok(())
-    }
-
     // Memory for so many bytes: that of the bytes that were kept, if they are as many. They are not
     // kept any more. `None` if memory runs out.
     fn take_room(&self, len: usize) -> Option<Vec<u8>> {
@@ -181,19 +170,33 @@ impl<R: Files<File = File>> StoreFile<R> {
         }
     }
 
-    // Fills the buffer with bytes that are not kept, and keeps more of the file if they are few.
+    // The bytes that are kept where `len` bytes from a position on are read: where they begin, and
+    // how many they are. `None` if none are, since those that are read are many.
+    fn to_keep(&self, len: usize, at: u64) -> Option<(u64, usize)> {
+        if self.takes_all() {
+            return Some((0, self.len as usize));
+        }
+        if len >= self.window {
+            return None;
+        }
+        let window = self.window as u64;
+        self.taken.set(self.taken.get().saturating_add(window));
+        let start = at.saturating_sub((window - len as u64) / 2);
+        Some((start, self.len.saturating_sub(start).min(window) as usize))
+    }
+
+    // Fills the buffer with bytes that are not kept, and keeps more of the file instead of what was
+    // kept, if they are few. If memory runs out, none are kept.
     #[inline(never)]
     fn read_more(&self, buf: &mut [u8], at: u64) -> io::Result<()> {
-        if self.takes_all() {
-            self.keep(0, usize::MAX)?;
-        } else if buf.len() < self.window {
-            let taken = self.taken.get().saturating_add(self.window as u64);
-            self.taken.set(taken);
-            let before = (self.window - buf.len()) / 2;
-            self.keep(at.saturating_sub(before as u64), self.window)?;
-        }
-        if self.copy_kept(buf, at) {
-            return Ok(());
+        if let Some((start, len)) = self.to_keep(buf.len(), at) {
+            if let Some(mut bytes) = self.take_room(len) {
+                self.read(&mut bytes, start)?;
+                let _ = self.kept.try_replace(Kept { start, bytes });
+            }
+            if self.copy_kept(buf, at) {
+                return Ok(());
+            }
         }
         self.read(buf, at)
     }
