@@ -1,5 +1,5 @@
 -- The lines of a text and what is printed for them, one after the other.
-use Rattle.gix_hash.proofs.Std.{◌≡◌, ℕ, ◌≤◌, Bool, true, false, nat_lt, Option, None, Some, List, [], ◌∷◌, length, refl, sym, ap, subst, ◌∙◌, arith, if◌then◌else◌, All, option_map, option_to_list, nat_tests, nil_from_length, All-append, All-cons, All-nil}
+use Rattle.gix_hash.proofs.Std.{◌≡◌, ℕ, ◌<◌, ◌≤◌, ◌++◌, Bool, true, false, nat_lt, Option, None, Some, List, [], ◌∷◌, append-nil, flat_map, length, refl, sym, ap, subst, ◌∙◌, arith, if◌then◌else◌, All, option_map, option_to_list, nat_tests, nil_from_length, All-append, All-cons, All-nil}
 use Rattle.streams.proofs.LineLemmas.{lines_of-nil}
 use Rattle.id_lookup.specs.Words.{Kind, KindDigits, digits_read, hex_len_of, hex_letter, kind_digits}
 use Rattle.object_store.specs.Several.{limited_to}
@@ -18,7 +18,7 @@ pub lines_at_end : (text : List ℕ) → length text ≡ 0 → lines_of text ≡
 lines_at_end text none = ap lines_of (nil_from_length text none) ∙ lines_of-nil
 
 -- what is printed by the first two is what is printed by all, if only one is asked for
-pub text_of_first : {X : Type 0} (text : Option (List ℕ) → X → List ℕ) (wanted : Wanted) (line : List ℕ) (found : List X)
+pub text_of_first : {X : Type 0} (text : List ℕ → X → List ℕ) (wanted : Wanted) (line : List ℕ) (found : List X)
     → found_text text wanted line (limited_to (limit_for wanted) found) ≡ found_text text wanted line found
 text_of_first text AllOfThem line found = refl
 text_of_first text One line [] = refl
@@ -39,6 +39,19 @@ no_answer_of_first Bare found = refl
 no_answer_of_first BareOne [] = refl
 no_answer_of_first BareOne (x ∷ []) = refl
 no_answer_of_first BareOne (x ∷ (other ∷ found)) = refl
+
+-- what is printed for things of which all are asked for is the text of each, after the line
+pub text_of_all : {X : Type 0} (text : List ℕ → X → List ℕ) (line : List ℕ) (found : List X) → 0 < length found
+    → found_text text AllOfThem line found ≡ flat_map (text (line ++ 32 ∷ [])) found
+text_of_all text line [] some = absurd (omega (arith, some))
+text_of_all text line (x ∷ found) some = refl
+
+-- and what is printed for one thing is its text
+pub text_of_one : {X : Type 0} (text : List ℕ → X → List ℕ) (line : List ℕ) (found : List X) → length found ≡ 1
+    → (found_text text One line found ≡ flat_map (text []) found) × (found_text text BareOne line found ≡ flat_map (text []) found)
+text_of_one text line [] one = absurd (omega (arith, one))
+text_of_one text line (x ∷ []) one = (sym (append-nil (text [] x)), sym (append-nil (text [] x)))
+text_of_one text line (x ∷ (other ∷ found)) one = absurd (omega (arith, one))
 
 -- why the first line that has no answer has none, of those before a line and this one
 abbrev pub first_why : {X : Type 0} → (X → Option NoAnswer) → Option NoAnswer → List ℕ × Option X → Option NoAnswer

@@ -8,14 +8,14 @@ use Rattle.packtool_commands.specs.declared.printing.Wanted.TheVariants.{All as 
 use Rattle.packtool_commands.specs.declared.printing.NoAnswer.{NoAnswer}
 
 -- the texts of what was found are those of what it is seen as
-pub text_seen : {X Y : Type 0} (text : Option (List ℕ) → Y → List ℕ) (f : X → Y) (wanted : Wanted) (line : List ℕ) (found : List X)
-    → found_text (λ l x. text l (f x)) wanted line found ≡ found_text text wanted line (map f found)
+pub text_seen : {X Y : Type 0} (text : List ℕ → Y → List ℕ) (f : X → Y) (wanted : Wanted) (line : List ℕ) (found : List X)
+    → found_text (λ front x. text front (f x)) wanted line found ≡ found_text text wanted line (map f found)
 text_seen text f AllOfThem line [] = refl
-text_seen text f AllOfThem line (x ∷ xs) = sym (flat_map-map (text (Some line)) f (x ∷ xs))
+text_seen text f AllOfThem line (x ∷ xs) = sym (flat_map-map (text (line ++ 32 ∷ [])) f (x ∷ xs))
 text_seen text f One line [] = refl
 text_seen text f One line (x ∷ []) = refl
 text_seen text f One line (x ∷ (y ∷ xs)) = refl
-text_seen text f Bare line xs = sym (flat_map-map (text None) f xs)
+text_seen text f Bare line xs = sym (flat_map-map (text []) f xs)
 text_seen text f BareOne line [] = refl
 text_seen text f BareOne line (x ∷ []) = refl
 text_seen text f BareOne line (x ∷ (y ∷ xs)) = refl

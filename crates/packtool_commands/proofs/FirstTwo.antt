@@ -51,7 +51,7 @@ module _ {A : Type 0} (wanted : Wanted) where
       let rest = all_of view prefixes found each.1 in (each.0.ids ∷ rest.0, (each.0.are_matches, rest.1), (each.0.first_are, rest.2))
 
   -- they print the same
-  pub same_answers : (text : Option (List ℕ) → ObjectId → List ℕ) (kind : Kind) (lines : List (List ℕ)) (found all : List (Ids A)) → AllZip AreFirstOf found all
+  pub same_answers : (text : List ℕ → ObjectId → List ℕ) (kind : Kind) (lines : List (List ℕ)) (found all : List (Ids A)) → AllZip AreFirstOf found all
       → answers_by (λ line (ids : Ids A). found_text text wanted line ids.items) kind lines found ≡ answers_by (λ line (ids : Ids A). found_text text wanted line ids.items) kind lines all
   unfolding answers_by
   same_answers text kind lines found all each =

@@ -56,26 +56,21 @@ AreListed view prefixes = All (λ (prefix : KindDigits). IsListed view (first_by
 abbrev pub line_with : List ℕ → List ℕ → List ℕ
 line_with line text = line ++ (32 ∷ (text ++ 10 ∷ []))
 
--- what is before a result: a line and a space, or nothing
-abbrev pub front_text : Option (List ℕ) → List ℕ
-front_text None = []
-front_text (Some line) = line ++ 32 ∷ []
+-- an id in hex and a line feed, after a front, which is a line of the text and a space, or nothing
+abbrev pub id_line : List ℕ → List ℕ → List ℕ
+id_line front id = front ++ (spelling hex_letter id ++ 10 ∷ [])
 
--- an id in hex and a line feed, after a line or nothing
-abbrev pub id_line : Option (List ℕ) → List ℕ → List ℕ
-id_line line id = front_text line ++ (spelling hex_letter id ++ 10 ∷ [])
-
--- what is printed for a prefix by what was found, where each thing that was found has a text: all texts, each after the line or alone, or the only one; and if
--- there is none, or more than one and one is asked for, the line and which of the two it is, or nothing
-abbrev pub found_text : {X : Type 0} → (Option (List ℕ) → X → List ℕ) → Wanted → List ℕ → List X → List ℕ
+-- what is printed for a prefix by what was found, where each thing that was found has a text after a front: all texts, each after the line and a space or after
+-- nothing, or the only one; and if there is none, or more than one and one is asked for, the line and which of the two it is, or nothing
+abbrev pub found_text : {X : Type 0} → (List ℕ → X → List ℕ) → Wanted → List ℕ → List X → List ℕ
 found_text text forms.All line [] = line_with line (codes "missing")
-found_text text forms.All line (x ∷ xs) = flat_map (text (Some line)) (x ∷ xs)
+found_text text forms.All line (x ∷ xs) = flat_map (text (line ++ 32 ∷ [])) (x ∷ xs)
 found_text text forms.One line [] = line_with line (codes "missing")
-found_text text forms.One line (x ∷ []) = text None x
+found_text text forms.One line (x ∷ []) = text [] x
 found_text text forms.One line (x ∷ (other ∷ xs)) = line_with line (codes "ambiguous")
-found_text text forms.Bare line xs = flat_map (text None) xs
+found_text text forms.Bare line xs = flat_map (text []) xs
 found_text text forms.BareOne line [] = []
-found_text text forms.BareOne line (x ∷ []) = text None x
+found_text text forms.BareOne line (x ∷ []) = text [] x
 found_text text forms.BareOne line (x ∷ (other ∷ xs)) = []
 
 -- how many of the things are needed for that: all, or, if one is asked for, the first two, which show whether there are several
@@ -147,13 +142,13 @@ pub record HasAnsweredEach (IsText : List ℕ → List ℕ → Type 0) (lines : 
 abbrev pub HasAnsweredMatches : (A : Type 0) → Wanted → StoreView → List (List ℕ) → Option NoAnswer → Option (List ℕ) → Option (List ℕ) → Type 0
 HasAnsweredMatches A wanted view lines why old new =
     HasAnsweredBy {X = Vec ObjectId A} (AreMatchesOfEach view (prefixes_of view.kind lines))
-    (λ line ids. found_text (λ l (id : ObjectId). id_line l (id_digits id)) wanted line ids.items) (λ ids. no_answer wanted ids.items) view.kind lines why old new
+    (λ line ids. found_text (λ front (id : ObjectId). id_line front (id_digits id)) wanted line ids.items) (λ ids. no_answer wanted ids.items) view.kind lines why old new
 
 -- a proper beginning of it was printed
 abbrev pub HasBegunMatches : (A : Type 0) → Wanted → StoreView → List (List ℕ) → Option (List ℕ) → Option (List ℕ) → Type 0
 HasBegunMatches A wanted view lines old new =
     HasBegunBy {X = Vec ObjectId A} (AreMatchesOfEach view (prefixes_of view.kind lines))
-    (λ line ids. found_text (λ l (id : ObjectId). id_line l (id_digits id)) wanted line ids.items) view.kind lines old new
+    (λ line ids. found_text (λ front (id : ObjectId). id_line front (id_digits id)) wanted line ids.items) view.kind lines old new
 
 -- The lines of the ids of a store, each with its abbreviation.
 
@@ -210,19 +205,18 @@ abbrev pub location_end : Option ℕ → List ℕ
 location_end (Some offset) = 32 ∷ decimal offset ++ 10 ∷ []
 location_end None = 10 ∷ []
 
--- the id in hex, a space, the path of the file, and the offset, after a line of a text or nothing; a backslash before all if a byte of the path is escaped
-abbrev pub location_line : Option (List ℕ) → List ℕ → List ℕ → Option ℕ → List ℕ
-location_line line id path offset = escape_mark path ++ (front_text line ++ ((spelling hex_letter id ++ 32 ∷ []) ++ (flat_map escape_of path ++ location_end offset)))
+-- the id in hex, a space, the path of the file, and the offset, after a front; a backslash before all if a byte of the path is escaped
+abbrev pub location_line : List ℕ → List ℕ → List ℕ → Option ℕ → List ℕ
+location_line front id path offset = escape_mark path ++ (front ++ ((spelling hex_letter id ++ 32 ∷ []) ++ (flat_map escape_of path ++ location_end offset)))
 
--- the lines of a location: one of a pack, and one of each file of a loose object
-abbrev pub lines_at_after : Option (List ℕ) → (ℕ → List ℕ) → List (List ℕ) → List ℕ → Location → List ℕ
-lines_at_after line pack_path loose_paths id (Packed pack offset) = location_line line id (pack_path pack) (Some offset)
-lines_at_after line pack_path loose_paths id Loose = flat_map (λ path. location_line line id path None) loose_paths
+-- the lines of a location of an id: one of a pack, and one of each file of a loose object
+abbrev pub lines_at_after : {A : Type 0} → (ℕ → List ℕ) → List ℕ → LocatedId A → Location → List ℕ
+lines_at_after pack_path front located (Packed pack offset) = location_line front (id_digits located.id) (pack_path pack) (Some offset)
+lines_at_after pack_path front located Loose = flat_map (λ path. location_line front (id_digits located.id) (string_bytes path) None) located.loose_paths.items
 
--- the lines of the locations of an id, each after a line of a text or nothing
-abbrev pub located_lines : {A : Type 0} → (ℕ → List ℕ) → Option (List ℕ) → LocatedId A → List ℕ
-located_lines pack_path line located =
-    flat_map (lines_at_after line pack_path (map string_bytes located.loose_paths.items) (id_digits located.id)) located.locations.items
+-- the lines of the locations of an id, each with the front
+abbrev pub located_lines : {A : Type 0} → (ℕ → List ℕ) → List ℕ → LocatedId A → List ℕ
+located_lines pack_path front located = flat_map (lines_at_after pack_path front located) located.locations.items
 
 -- as many of the ids that begin with each prefix among lines as are needed were located, the lines of their locations were printed, and `why` is why the first
 -- line that has no answer has none; A is the type of the allocator of what was found

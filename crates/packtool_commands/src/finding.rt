@@ -10,7 +10,7 @@ ghost use Rattle.streams.specs.Streams.{lines_of};
 use crate::error::StoreError;
 use crate::prefixes::PrefixLines;
 use crate::printing::{
-    ItemForm, ListForm, NoAnswer, Wanted, limit_for, write_answers, write_front,
+    Front, ItemForm, ListForm, NoAnswer, Wanted, limit_for, write_answers, write_two,
 };
 use crate::reopening::look_up_lines;
 use gix_hash::{Alphabet, ObjectId};
@@ -80,15 +80,15 @@ pub fn find_each<S: Reopen, A: Allocator + Copy, W: Sink>(
 struct IdForm;
 
 impl ItemForm<ObjectId> for IdForm {
-    ghost text = { λ _ line id. id_line line (id_digits id) };
+    ghost text = { λ _ front id. id_line front (id_digits id) };
 
     fn write_after<W: Sink>(
         &self,
-        line: Option<&[u8]>,
+        front: &Front<'_>,
         id: &ObjectId,
         out: &mut W,
     ) -> Result<(), WriteFailed> {
-        write_front(line, out)?;
+        write_two(front.line, front.space, out)?;
         write_id(Alphabet::Hex, id, out)
     }
 }

@@ -26,7 +26,7 @@ pub fn printed_names()
 /// The first two things that a prefix finds are enough if one is asked for: what is printed for
 /// them, and why they are no answer, is the same as for all things that it finds.
 pub fn two_are_enough<X>()
-    ensures text { (text : Option (List ℕ) → X → List ℕ) (wanted : Wanted) (line : List ℕ)
+    ensures text { (text : List ℕ → X → List ℕ) (wanted : Wanted) (line : List ℕ)
         (found : List X) → found_text text wanted line (limited_to (limit_for wanted) found)
         ≡ found_text text wanted line found }
     ensures no_answer { (wanted : Wanted) (found : List X)

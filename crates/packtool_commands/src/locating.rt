@@ -1,6 +1,6 @@
 //! The locations of the objects of a store, a line for each.
 
-ghost use Rattle.std.specs.Prelude.{◌≡◌, ◌≢◌, ◌↔◌, ◌<◌, ◌≤◌, [], ◌∷◌, ◌++◌, None, false, true, length, map, option_copied, string_bytes, take, All, IfErr, IfOk, IsErrOf};
+ghost use Rattle.std.specs.Prelude.{◌≡◌, ◌≢◌, ◌↔◌, ◌<◌, ◌≤◌, [], ◌∷◌, ◌++◌, false, true, length, take, All, IfErr, IfOk, IsErrOf};
 ghost use Rattle.id_lookup.specs.Words.{hex_letter, id_digits, spelling};
 ghost use Rattle.object_store.specs.Several.{HaveMoreLocations, IsLocationsFaultOfOne};
 ghost use Rattle.object_store.specs.Stores.{IsReopened};
@@ -14,7 +14,7 @@ use crate::line_buffer::{put, put_id};
 use crate::line_end::push;
 use crate::prefixes::PrefixLines;
 use crate::printing::{
-    ItemForm, ListForm, NoAnswer, Wanted, limit_for, write_answers, write_each, write_front,
+    Front, ItemForm, ListForm, NoAnswer, Wanted, limit_for, write_answers, write_two,
 };
 use crate::reopening::look_up_lines;
 use arrayvec::ArrayVec;
@@ -98,74 +98,51 @@ struct LocationsForm<'s, S> {
 }
 
 impl<S: StorePaths, A: Allocator> ItemForm<LocatedId<A>> for LocationsForm<'_, S> {
-    ghost text = { λ form line id. located_lines (S.pack_path form.store.now) line id };
+    ghost text = { λ form front located. located_lines (S.pack_path form.store.now) front located };
 
     fn write_after<W: Sink>(
         &self,
-        line: Option<&[u8]>,
+        front: &Front<'_>,
         located: &LocatedId<A>,
         out: &mut W,
     ) -> Result<(), WriteFailed> {
-        let form = LocationForm {
-            store: self.store,
-            id: &located.id,
-            loose_paths: &located.loose_paths,
-        };
-        write_each(line, &located.locations, &form, out)
+        for location in &located.locations {
+            write_lines_at(self.store, front, located, location, out)?;
+        }
+        Ok(())
     }
 }
 
-// How a location of an object is printed: a line, or one for each file of a loose object.
-#[derive(Drop)]
-struct LocationForm<'s, S> {
-    store: &'s S,
-    id: &'s ObjectId,
-    loose_paths: &'s [String],
-}
-
-impl<S: StorePaths> ItemForm<Location> for LocationForm<'_, S> {
-    ghost text = { λ form line location. lines_at_after line (S.pack_path form.store.now)
-        (map string_bytes form.loose_paths.now) (id_digits form.id.now) location };
-
-    fn write_after<W: Sink>(
-        &self,
-        line: Option<&[u8]>,
-        location: &Location,
-        out: &mut W,
-    ) -> Result<(), WriteFailed> {
-        match location {
-            Location::Packed { pack, offset } => {
-                let path = self.store.pack_path(*pack);
-                write_location(line, self.id, path, Some(*offset), out)
+// Writes the lines of an object's location: one of a pack, or one of each file of a loose object.
+fn write_lines_at<S: StorePaths, A: Allocator, W: Sink>(
+    store: &S,
+    front: &Front<'_>,
+    located: &LocatedId<A>,
+    location: &Location,
+    out: &mut W,
+) -> Result<(), WriteFailed>
+    requires { W.has_failed out.old ≡ false }
+    ensures { Wrote W.taken W.has_failed out.old out.new result
+        (lines_at_after (S.pack_path store.now) (front.now.line.now ++ front.now.space.now)
+        located.now location.now) }
+{
+    match location {
+        Location::Packed { pack, offset } => {
+            let path = store.pack_path(*pack);
+            write_location(front, &located.id, path, Some(*offset), out)
+        }
+        Location::Loose => {
+            for path in &located.loose_paths {
+                write_location(front, &located.id, path.as_str(), None, out)?;
             }
-            Location::Loose => write_each(line, self.loose_paths, &PathForm { id: self.id }, out),
+            Ok(())
         }
     }
 }
 
-// How the path of a file of a loose object is printed.
-#[derive(Drop)]
-struct PathForm<'i> {
-    id: &'i ObjectId,
-}
-
-impl ItemForm<String> for PathForm<'_> {
-    ghost text = { λ form line path. location_line line (id_digits form.id.now)
-        (string_bytes path) None };
-
-    fn write_after<W: Sink>(
-        &self,
-        line: Option<&[u8]>,
-        path: &String,
-        out: &mut W,
-    ) -> Result<(), WriteFailed> {
-        write_location(line, self.id, path.as_str(), None, out)
-    }
-}
-
-// Writes the line of an object's location after a line of a text or nothing.
+// Writes the line of a location of an object, with a front before its id.
 fn write_location<W: Sink>(
-    line: Option<&[u8]>,
+    front: &Front<'_>,
     id: &ObjectId,
     path: &str,
     offset: Option<u64>,
@@ -173,12 +150,13 @@ fn write_location<W: Sink>(
 ) -> Result<(), WriteFailed>
     requires { W.has_failed out.old ≡ false }
     ensures { Wrote W.taken W.has_failed out.old out.new result
-        (location_line (option_copied line.entry) (id_digits id.now) path.now offset) }
+        (location_line (front.now.line.now ++ front.now.space.now) (id_digits id.now) path.now
+        offset) }
 {
     let mut start = [0; MAX_START_LEN];
     let start_len = put_start(id, &mut start);
     write_mark(path, out)?;
-    write_front(line, out)?;
+    write_two(front.line, front.space, out)?;
     write_all(out, &start[..start_len])?;
     write_before(path, location_end(offset).as_slice(), out)
 }

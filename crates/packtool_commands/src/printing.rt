@@ -1,9 +1,9 @@
 //! What is printed for each line of a text, by what is found in a store.
 
-ghost use Rattle.std.specs.Prelude.{◌≡◌, ◌++◌, ◌∷◌, ℕ, Bool, List, IfOk, OnErr, OnOk, Option, Some, false, flat_map, option_copied, true};
+ghost use Rattle.std.specs.Prelude.{◌≡◌, ◌++◌, ◌∷◌, ℕ, Bool, List, IfOk, OnErr, OnOk, Option, Some, false, option_copied, true};
 ghost use Rattle.std.specs.Io.KnownBytes.{Appends};
 ghost use Rattle.std.specs.Option.{option_map_or, option_or};
-ghost use Rattle.packtool_commands.specs.Stores.{answer_of, answers_by, found_text, front_text, limit_for, no_answer, no_answer_by, with_found};
+ghost use Rattle.packtool_commands.specs.Stores.{answer_of, answers_by, found_text, limit_for, no_answer, no_answer_by, with_found};
 ghost use Rattle.packtool_commands.specs.declared.printing.NoAnswer.{NoAnswer};
 ghost use Rattle.streams.specs.Streams.{AppendsBeginning, Wrote, lines_of};
 
@@ -127,21 +127,30 @@ fn answer_to<'f, T>(line: &Line<'_>, found: &'f [T]) -> (Option<&'f T>, &'f [T])
     }
 }
 
+/// What is before a result in its line: a line of the text and a space, or nothing.
+#[derive(Drop)]
+pub(crate) struct Front<'l> {
+    /// The line, or nothing.
+    pub(crate) line: &'l [u8],
+    /// The space, or nothing.
+    pub(crate) space: &'l [u8],
+}
+
 /// How one thing that is found, an `X`, is printed.
 pub(crate) trait ItemForm<X> {
-    /// What is printed for it, after a line or nothing.
-    ghost text: { Self → Option (List ℕ) → X → List ℕ };
+    /// What is printed for it, after the bytes of a front.
+    ghost text: { Self → List ℕ → X → List ℕ };
 
-    /// Writes it, after a line or nothing.
+    /// Writes it, after a front.
     fn write_after<W: Sink>(
         &self,
-        line: Option<&[u8]>,
+        front: &Front<'_>,
         item: &X,
         out: &mut W,
     ) -> Result<(), WriteFailed>
         requires { W.has_failed out.old ≡ false }
         ensures { Wrote W.taken W.has_failed out.old out.new result
-            (text self.now (option_copied line.entry) item.now) };
+            (text self.now (front.now.line.now ++ front.now.space.now) item.now) };
 }
 
 /// How a list of what is found is printed: all of it, or the only one.
@@ -173,15 +182,19 @@ impl<X, A: Allocator, F: ItemForm<X>> AnswerForm<Vec<X, A>> for ListForm<F> {
             }
             return write_two(line, b" missing\n", out);
         }
-        match self.wanted {
-            Wanted::All => write_each(Some(line), found, &self.item, out),
-            Wanted::Bare => write_each(None, found, &self.item, out),
-            Wanted::One | Wanted::BareOne if found.len() == 1 => {
-                self.item.write_after(None, &found[0], out)
-            }
-            Wanted::One => write_two(line, b" ambiguous\n", out),
-            Wanted::BareOne => Ok(()),
+        let front = match self.wanted {
+            Wanted::All => Front { line, space: b" " },
+            Wanted::One if found.len() > 1 => return write_two(line, b" ambiguous\n", out),
+            Wanted::BareOne if found.len() > 1 => return Ok(()),
+            _ => Front {
+                line: b"",
+                space: b"",
+            },
+        };
+        for item in found {
+            self.item.write_after(&front, item, out)?;
         }
+        Ok(())
     }
 
     fn no_answer(&self, found: Option<&Vec<X, A>>) -> Option<NoAnswer> {
@@ -195,35 +208,6 @@ impl<X, A: Allocator, F: ItemForm<X>> AnswerForm<Vec<X, A>> for ListForm<F> {
             Wanted::One | Wanted::BareOne if found.len() > 1 => Some(NoAnswer::Ambiguous),
             _ => None,
         }
-    }
-}
-
-/// Writes each of some things after a line or nothing.
-pub(crate) fn write_each<X, F: ItemForm<X>, W: Sink>(
-    line: Option<&[u8]>,
-    found: &[X],
-    form: &F,
-    out: &mut W,
-) -> Result<(), WriteFailed>
-    requires { W.has_failed out.old ≡ false }
-    ensures { Wrote W.taken W.has_failed out.old out.new result
-        (flat_map (F.text form.now (option_copied line.entry)) found.now) }
-{
-    for item in found {
-        form.write_after(line, item, out)?;
-    }
-    Ok(())
-}
-
-/// Writes what is before a result: a line and a space, or nothing.
-pub(crate) fn write_front<W: Sink>(line: Option<&[u8]>, out: &mut W) -> Result<(), WriteFailed>
-    requires { W.has_failed out.old ≡ false }
-    ensures { Wrote W.taken W.has_failed out.old out.new result
-        (front_text (option_copied line.entry)) }
-{
-    match line {
-        Some(line) => write_two(line, b" ", out),
-        None => Ok(()),
     }
 }
 

@@ -113,7 +113,7 @@ module _ (at : Answers) (purpose : Purpose) (directories objects : List (List �
           → HasAnsweredEach (IsAnswerTo question least wanted view.kind objects) lines old new
       by Find found =
           let finds : List ℕ → Vec ObjectId Global → Type 0 = λ digits ids. map id_digits ids.items ≡ matches digits objects in
-          let text : List ℕ → Vec ObjectId Global → List ℕ = λ line ids. found_text (λ l (id : ObjectId). id_line l (id_digits id)) wanted line ids.items in
+          let text : List ℕ → Vec ObjectId Global → List ℕ = λ line ids. found_text (λ front (id : ObjectId). id_line front (id_digits id)) wanted line ids.items in
           each-is (IsTextOf finds text view.kind) (IsAnswerTo Find least wanted view.kind objects)
           (λ line written. text-is finds (λ digits (ids : List (List ℕ)). ids ≡ matches digits objects) text (λ l ids. found_text id_line wanted l ids) (λ ids. map id_digits ids.items)
           (λ digits ids same. same) (λ l ids. text_seen id_line id_digits wanted l ids.items) line written (prefix_of view.kind line)) lines old new

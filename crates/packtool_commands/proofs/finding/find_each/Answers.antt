@@ -16,7 +16,7 @@ returns-in_err-write_answers-clause-part g c = λ _.
     record {
       results = all.0;
       are_found = all.1;
-      written = subst (AppendsBeginning _ _) (same_answers c.args.wanted (λ line id. id_line line (id_digits id)) _ _ c.in_ok-found.found.items all.0 all.2)
+      written = subst (AppendsBeginning _ _) (same_answers c.args.wanted (λ front id. id_line front (id_digits id)) _ _ c.in_ok-found.found.items all.0 all.2)
           (rw (same, ← c.deref.ensures.value) c.in_err-write_answers.ensures.part);
     }
 
@@ -28,6 +28,6 @@ returns-clause-found g c =
       results = all.0;
       are_found = all.1;
       first = rw (same, ← c.deref.ensures.value) c.in_ok-write_answers.ensures.why ∙ same_why c.args.wanted _ _ c.in_ok-found.found.items all.0 all.2;
-      written = subst (Appends _ _) (same_answers c.args.wanted (λ line id. id_line line (id_digits id)) _ _ c.in_ok-found.found.items all.0 all.2)
+      written = subst (Appends _ _) (same_answers c.args.wanted (λ front id. id_line front (id_digits id)) _ _ c.in_ok-found.found.items all.0 all.2)
           (rw (same, ← c.deref.ensures.value) c.in_ok-write_answers.ensures.written);
     }
