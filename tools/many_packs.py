@@ -220,18 +220,27 @@ def other_packs(program, room, kind):
 
 
 def read_instead(program, room, kind):
-    """A multi-pack-index that is read in place of the pack indexes that it names, of which zeros have the places then; `locate` reads them."""
-    store = Store(program, room / kind, kind)
+    """Multi-pack-indexes of a store and of its alternate `packs` that are read in place of the pack indexes that they name, of which zeros have
+    the places then; `locate` reads these."""
+    # (with this seed no loose object begins with the byte that is located)
+    store, other = Store(program, room / kind, kind), Store(program, room / f"{kind} other", kind, seed=2)
     located = store.commands.pop()
+    alternate = (other.path / "objects").rename(store.path / "objects" / "packs")
+    write(store.path / "objects" / "info" / "alternates", b"packs\n")
+    store.lines += other.lines
+    store.given += other.given
     store.note()
-    for path in sorted((store.path / "objects" / "pack").glob("*.idx")):
+    indexes = [path for objects in (store.path / "objects", alternate) for path in sorted((objects / "pack").glob("*.idx"))]
+    for path in indexes:
         path.unlink()
         write(path, bytes(2 * FAN_OUT))
+    write(alternate / "pack" / "multi-pack-index", other.whole)
     store.put(store.whole)
     yield store.row("a multi-pack-index of packs whose indexes are zeros", is_asked=False)
     yield store.row("the same with few open files", "prlimit", "--nofile=64", is_asked=False)
     found, errors, status = ran(program, *located, cwd=store.path)
-    yield "locate in the same", None if (status, found) == (2, "") and errors.count(", skipped") == 4 else f"{status}, {found!r}, {errors!r}"
+    is_right = (status, found) == (2, "") and errors.count(", skipped") == len(indexes)
+    yield "locate in the same", None if is_right else f"{status}, {found!r}, {errors!r}"
 
 
 def asked_again(program, room, kind):

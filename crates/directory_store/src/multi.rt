@@ -132,7 +132,9 @@ fn count_in(directory: &str, listed: &[PackPaths]) -> usize
     ensures { result ≤ length listed.now }
 {
     for (at, paths) in listed.iter().enumerate() {
-        if !paths.index.starts_with(directory) {
+        // (`x/packs` begins with `x/pack`, too)
+        let name = paths.index.strip_prefix(directory).unwrap_or("");
+        if !name.starts_with('/') {
             return at;
         }
     }
