@@ -1,10 +1,9 @@
 //! Assertions that are calls, and print their condition.
 
 use gix_hash::ObjectId;
+use gix_hash::io::Error;
 use std::alloc::AllocError;
-use std::cell::Cell;
 use std::cmp::Ordering;
-use std::error::Error;
 use std::fmt::{Debug, Display};
 use std::hash::{DefaultHasher, Hash, Hasher};
 use std::io;
@@ -52,29 +51,23 @@ pub fn expect_shown<T: Debug>(rt: &(impl Abort + AllocGlobal), value: &T) {
 }
 
 /// The error's text; its Debug text is not empty.
-pub fn expect_error<E: Error + Drop>(rt: &(impl Abort + AllocGlobal), error: E, want: &str) {
+pub fn expect_error<E: std::error::Error + Drop>(
+    rt: &(impl Abort + AllocGlobal),
+    error: E,
+    want: &str,
+) {
     expect_shown(rt, &error);
     expect_text(rt, error, want);
 }
 
 /// The device's error has that kind.
 pub fn expect_kind<T: Drop>(rt: &impl Abort, outcome: io::Result<T>, kind: io::ErrorKind) {
-    match outcome {
-        Ok(_) => panic!(rt; "no error where one of {kind} is wanted"),
-        Err(error) => expect!(rt; error.kind() == kind, kind),
-    }
+    expect!(rt; matches!(outcome, Err(error) if error.kind() == kind), kind);
 }
 
 /// Reading failed with a device's error of that kind.
-pub fn expect_io(
-    rt: &impl Abort,
-    outcome: Result<ObjectId, gix_hash::io::Error>,
-    kind: io::ErrorKind,
-) {
-    match outcome {
-        Err(gix_hash::io::Error::Io(error)) => expect_kind::<()>(rt, Err(error), kind),
-        _ => panic!(rt; "no error of a device where one of {kind} is wanted"),
-    }
+pub fn expect_io(rt: &impl Abort, outcome: Result<ObjectId, Error>, kind: io::ErrorKind) {
+    expect!(rt; matches!(outcome, Err(Error::Io(error)) if error.kind() == kind), kind);
 }
 
 /// The text of the value or of the error; no error has the text of a value.
@@ -120,31 +113,4 @@ pub fn expect_fed<T: Hash>(rt: &impl Abort, value: &T, writes: &[&[u8]]) {
         want.write(write);
     }
     expect!(rt; fed.finish() == want.finish());
-}
-
-/// A state of a hash that counts its writes and their bytes. Clauses know nothing of a cell.
-#[derive(Drop)]
-pub struct Writes(Cell<(usize, usize)>);
-
-impl Hasher for Writes {
-    ghost write = { λ state _. state };
-
-    ghost finish = { λ _. 0 };
-
-    fn finish(&self) -> u64 {
-        0
-    }
-
-    fn write(&mut self, bytes: &[u8]) {
-        let (count, len) = self.0.get();
-        self.0
-            .set((count.saturating_add(1), len.saturating_add(bytes.len())));
-    }
-}
-
-/// The value feeds a hash that many bytes, in that many writes.
-pub fn expect_writes<T: Hash>(rt: &impl Abort, value: &T, count: usize, len: usize) {
-    let mut writes = Writes(Cell::new((0, 0)));
-    value.hash(&mut writes);
-    expect!(rt; writes.0.get() == (count, len));
 }

@@ -6,7 +6,6 @@ use crate::well_known::{BLOB, BLOB_256, BLOB_ID, id};
 use gix_hash::{Kind, ObjectId, Prefix, oid};
 use std::io::{self, Write};
 use std::process::Abort;
-use std::test::Fail;
 use test_devices::{FAILED, Fault, KINDS, Writer};
 
 #[test]
@@ -94,21 +93,16 @@ fn expect_failed(rt: &(impl Abort + AllocGlobal), named: &Named<'_>, kind: io::E
 }
 
 #[test]
-fn digits_are_written(rt: HostRuntime) -> Result<(), Fail> {
+fn digits_are_written(rt: HostRuntime) {
     for &text in &[BLOB, BLOB_256] {
         let id = id(&rt, text);
-        for named in &[
-            Named::View(id.as_oid()),
-            Named::Id(id),
-            Named::Prefix(Prefix::from(id)),
-        ] {
-            expect_all_written(&rt, named, text);
-        }
+        expect_all_written(&rt, &Named::View(id.as_oid()), text);
+        expect_all_written(&rt, &Named::Id(id), text);
+        expect_all_written(&rt, &Named::Prefix(Prefix::from(id)), text);
     }
-    expect_all_written(&rt, &Named::Prefix(Prefix::from_hex("e69d0")?), "e69d0");
+    expect_all_written(&rt, &Named::Prefix(read(&rt, "e69d0")), "e69d0");
     // No digits make no write.
     let none = Named::Prefix(id(&rt, BLOB).to_prefix(0..0));
     let failing = (0, Fault::Always(io::ErrorKind::Other));
     expect_written(&rt, &none, failing, "", b"", 0);
-    Ok(())
 }

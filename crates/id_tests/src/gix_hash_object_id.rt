@@ -2,7 +2,7 @@
 
 use crate::expecting::{
     converted, expect, expect_below, expect_debug, expect_error, expect_fed, expect_outcome,
-    expect_same, expect_text, expect_writes, parsed, tried,
+    expect_same, expect_text, parsed, tried,
 };
 use crate::gix_hash_prefix::beginning;
 use crate::well_known::{
@@ -150,7 +150,6 @@ fn expect_id_fed(rt: &impl Abort, id: &ObjectId, bytes: &[u8]) {
 fn fed_to_a_hash(rt: HostRuntime) {
     expect_id_fed(&rt, &BLOB_ID, &BLOB_BYTES);
     expect_id_fed(&rt, &BLOB_256_ID, &BLOB_256_BYTES);
-    expect_writes(&rt, &BLOB_ID, 1, 20);
     expect_fed(
         &rt,
         &BLOB_ID.to_hex_with_len(50),
