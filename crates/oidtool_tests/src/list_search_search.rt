@@ -4,7 +4,8 @@
 use crate::by::{By, EACH};
 use crate::expecting::{expect, expect_bytes, expect_text};
 use crate::well_known::{
-    BLOB, BLOB_256, BLOB_LETTERS, NO_MATCH, TREE, TREE_256, TREE_LETTERS, text_of,
+    BLOB, BLOB_256, BLOB_LETTERS, BLOB_TREE, NO_MATCH, TREE, TREE_256, TREE_BLOB, TREE_LETTERS,
+    text_of,
 };
 use find_calls::{Search, search_from};
 use gix_hash::Kind;
@@ -276,23 +277,26 @@ fn reports_the_whole_length_of_a_bad_line(rt: HostRuntime) -> Result<(), Fail> {
     Ok(())
 }
 
+// Prefixes, lists, the chunks in which they are read and after how many bytes a read fails, the
+// outcomes, and how often is read.
+const UNREAD: [(&str, &str, (usize, usize), &str, usize); 6] = [
+    ("4b82", TREE, (41, 41), "Err(Input)", 2),
+    ("4b82", "zz\n", (1, 3), BAD_1, 3),
+    ("4b82", "zz", (1, 2), "Err(Input)", 3),
+    ("4b82", BAD_AND_TREE, (1, 1000), BAD_1, 3),
+    ("abc", BAD_AND_TREE, (1, 0), SHORT, 0),
+    ("4b82", BLOB_TREE, (41, 1000), UNSORTED_2, 3),
+];
+
+const BAD_AND_TREE: &str = "zz\n4b825dc642cb6eb9a060e54bf8d69288fbee4904\n";
+
 // Ids that are out of order are reported at the end of the list, after which nothing is read.
 #[test]
 fn reads_nothing_after_a_bad_line(rt: HostRuntime) {
-    let unsorted = text_of(&rt, UNSORTED);
-    let ended = text_of(&rt, ["zz\n", TREE].as_slice());
-    let ended = ended.as_bytes();
-    let rows = [
-        ("4b82", TREE.as_bytes(), (41, 41), "Err(Input)", 2),
-        ("4b82", b"zz\n", (1, 3), BAD_1, 3),
-        ("4b82", b"zz", (1, 2), "Err(Input)", 3),
-        ("4b82", ended, (1, 1000), BAD_1, 3),
-        ("abc", ended, (1, 0), SHORT, 0),
-        ("4b82", unsorted.as_bytes(), (41, 1000), UNSORTED_2, 3),
-    ];
-    for &(prefix, list, (chunk, after), outcome, calls) in &rows {
+    for &(prefix, list, (chunk, after), outcome, calls) in &UNREAD {
         let reader = (chunk, Fault::AfterBytes(after));
-        let called = expect_from(&rt, By::Hex, prefix, list, reader, (outcome, NO_MATCH));
+        let want = (outcome, NO_MATCH);
+        let called = expect_from(&rt, By::Hex, prefix, list.as_bytes(), reader, want);
         expect!(&rt; called == calls, outcome);
     }
 }
@@ -300,7 +304,6 @@ fn reads_nothing_after_a_bad_line(rt: HostRuntime) {
 // 82 bytes in chunks of 7, and the read that meets the end. Nothing is read after a failure.
 #[test]
 fn reports_each_read_that_fails(rt: HostRuntime) {
-    let list = text_of(&rt, SHA1);
     for &by in &EACH {
         for at in 1..=14 {
             let want = if at < 14 {
@@ -310,7 +313,7 @@ fn reports_each_read_that_fails(rt: HostRuntime) {
             };
             for &fault in &[Fault::AtCall(at), Fault::InterruptedAt(at)] {
                 let reader = (7, fault);
-                let calls = expect_from(&rt, by, by.prefix(), list.as_bytes(), reader, want);
+                let calls = expect_from(&rt, by, by.prefix(), TREE_BLOB.as_bytes(), reader, want);
                 expect!(&rt; calls == at.min(13), (by, at));
             }
         }

@@ -1,10 +1,9 @@
 //! The commands that compute digests: their words, and their runs.
 
 use crate::expecting::{expect, expect_shown};
-use crate::oidtool_commands_running::{expect_flushed, expect_run};
-use crate::streams_pipe::{ABC, sealed};
-use gix_hash::Kind;
-use oidtool_commands::{Command, read_command};
+use crate::oidtool_commands_running::{Words, expect_flushed, expect_run};
+use crate::streams_pipe::{HASHED, SEALED};
+use oidtool_commands::read_command;
 use std::fs;
 use std::test::Fail;
 use test_devices::Fault;
@@ -53,42 +52,46 @@ fn reads_kinds_and_numbers(rt: HostRuntime) {
     }
 }
 
+const HASH: Words = &["hash", "sha1"];
+
+const SEAL: Words = &["seal", "sha1"];
+
 // Over `abc`, a byte a read.
+const PIPES: [(Words, Fault, &str, &[u8], usize); 4] = [
+    (HASH, Fault::Never, "Ok(1)", HASHED, 4),
+    (SEAL, Fault::Never, "Ok(1)", SEALED, 4),
+    (HASH, Fault::AtCall(3), "Err(Input)", b"", 3),
+    (SEAL, Fault::AtCall(3), "Err(Input)", b"ab", 3),
+];
+
 #[test]
 fn runs_pipes(rt: HostRuntime) {
-    let kind = Kind::Sha1;
-    let (hash, seal) = (Command::Hash { kind }, Command::Seal { kind });
-    let whole = sealed(&rt, b"abc", ABC);
-    for &(command, fault, outcome, written, reads) in &[
-        (hash, Fault::Never, "Ok(1)", ABC.as_bytes(), 4),
-        (seal, Fault::Never, "Ok(1)", &whole, 4),
-        (hash, Fault::AtCall(3), "Err(Input)", b"", 3),
-        (seal, Fault::AtCall(3), "Err(Input)", b"ab", 3),
-    ] {
-        let called = expect_run(&rt, command, b"abc", (1, fault), outcome, written);
-        expect!(&rt; called == reads, command);
+    for &(words, fault, outcome, written, reads) in &PIPES {
+        let called = expect_run(&rt, words, b"abc", (1, fault), outcome, written);
+        expect!(&rt; called == reads, words);
     }
-    for &(command, written) in &[(hash, ABC.as_bytes()), (seal, &whole)] {
+    for &(words, written) in &[(HASH, HASHED), (SEAL, SEALED)] {
         let failing = (1000, Fault::AtFlush);
-        expect_flushed(&rt, command, b"abc", failing, "Err(Output)", written, 1);
+        expect_flushed(&rt, words, b"abc", failing, "Err(Output)", written, 1);
     }
 }
 
-// The last is no file.
+// How many bytes of a file are hashed. The last is no file.
+const HASHES: [(&str, &str, &str, &[u8]); 3] = [
+    ("3", "oidtool-hashes-files", "Ok(1)", HASHED),
+    ("7", "oidtool-hashes-files", "Err(Input)", b""),
+    ("3", "oidtool-hashes-no-file", "Err(Input)", b""),
+];
+
 #[test]
 fn hashes_files(rt: HostRuntime) -> Result<(), Fail> {
-    let (kind, file) = (Kind::Sha1, "oidtool-hashes-files");
-    fs::write(&rt, file, b"abcdef")?;
-    for &(path, count, outcome, written) in &[
-        (file, 3, "Ok(1)", ABC.as_bytes()),
-        (file, 7, "Err(Input)", b""),
-        ("oidtool-hashes-no-file", 3, "Err(Input)", b""),
-    ] {
-        let command = Command::HashFile { kind, count, path };
+    fs::write(&rt, "oidtool-hashes-files", b"abcdef")?;
+    for &(count, path, outcome, written) in &HASHES {
+        let words = ["hash-file", "sha1", count, path];
         let whole = (usize::MAX, Fault::Never);
-        let reads = expect_run(&rt, command, b"", whole, outcome, written);
-        expect!(&rt; reads == 0, command);
+        let reads = expect_run(&rt, &words, b"", whole, outcome, written);
+        expect!(&rt; reads == 0, words);
     }
-    fs::remove_file(&rt, file)?;
+    fs::remove_file(&rt, "oidtool-hashes-files")?;
     Ok(())
 }

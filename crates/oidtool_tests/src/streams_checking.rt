@@ -2,7 +2,7 @@
 //! fail.
 
 use crate::expecting::{expect, expect_printed};
-use crate::streams_pipe::{ABC, ABC_256, EMPTY, EMPTY_256, sealed};
+use crate::streams_pipe::{ABC, ABC_256, MESSAGES, SEALED, sealed};
 use gix_hash::Kind;
 use std::process::Abort;
 use streams::{Ending, PipeError, Plain, Source, check_seal};
@@ -36,34 +36,17 @@ const NO_OBJECTS_256: &[u8] =
 
 // Checks the bytes, at most `chunk` a read: they end with the digest of the line if it is given,
 // and otherwise with other bytes, which are as many as a digest has unless there are fewer.
-fn expect_check(
-    rt: &(impl Abort + AllocGlobal),
-    kind: Kind,
-    bytes: &[u8],
-    chunk: usize,
-    line: Option<&str>,
-) {
+fn expect_check(rt: &impl Abort, kind: Kind, bytes: &[u8], chunk: usize, line: Option<&str>) {
     let mut input = Plain::new(Reader::new(bytes, chunk, Fault::Never));
-    let row = (kind, bytes.len(), chunk, line);
-    match check_seal(&mut input, kind) {
-        Ok(Ending::Sealed(id)) => {
-            let text = format!(in rt.alloc(); "{id}\n").expect(rt, "no memory for a text");
-            expect!(rt; line == Some(text.as_str()), row);
+    let is_right = match (check_seal(&mut input, kind), line) {
+        (Ok(Ending::Sealed(id)), Some(line)) => id.eq_str(line.trim_end()),
+        (Ok(Ending::Unsealed { last, .. }), None) => {
+            last.is_some() == (bytes.len() >= kind.len_in_bytes())
         }
-        Ok(Ending::Unsealed { last, .. }) => {
-            expect!(rt; line.is_none(), row);
-            expect!(rt; last.is_some() == (bytes.len() >= kind.len_in_bytes()), row);
-        }
-        Err(_) => expect!(rt; false, row),
-    }
+        _ => false,
+    };
+    expect!(rt; is_right, (kind, bytes.len(), chunk, line));
 }
-
-const MESSAGES: [(Kind, &[u8], &str); 4] = [
-    (Kind::Sha1, b"abc", ABC),
-    (Kind::Sha256, b"abc", ABC_256),
-    (Kind::Sha1, b"", EMPTY),
-    (Kind::Sha256, b"", EMPTY_256),
-];
 
 #[test]
 fn finds_what_is_sealed(rt: HostRuntime) {
@@ -106,6 +89,17 @@ fn finds_across_chunks(rt: HostRuntime) {
     }
 }
 
+// Neither the first `len` bytes are sealed, nor all with the next one changed.
+fn expect_unsealed(rt: &impl Abort, kind: Kind, whole: &mut [u8], len: usize) {
+    assert!(rt; len < whole.len());
+    for &chunk in &[1, usize::MAX] {
+        expect_check(rt, kind, &whole[..len], chunk, None);
+    }
+    whole[len] ^= 0x80;
+    expect_check(rt, kind, whole, usize::MAX, None);
+    whole[len] ^= 0x80;
+}
+
 #[test]
 fn finds_what_is_not_sealed(rt: HostRuntime) {
     for &(kind, other, line) in &[
@@ -115,12 +109,7 @@ fn finds_what_is_not_sealed(rt: HostRuntime) {
         let mut whole = sealed(&rt, b"abc", line);
         expect_check(&rt, other, &whole, usize::MAX, None);
         for len in 0..whole.len() {
-            for &chunk in &[1, usize::MAX] {
-                expect_check(&rt, kind, &whole[..len], chunk, None);
-            }
-            whole[len] ^= 0x80;
-            expect_check(&rt, kind, &whole, usize::MAX, None);
-            whole[len] ^= 0x80;
+            expect_unsealed(&rt, kind, &mut whole, len);
         }
         whole.push(b'\n').expect(&rt, "no memory for a message");
         expect_check(&rt, kind, &whole, usize::MAX, None);
@@ -148,10 +137,9 @@ fn gives_both_digests(rt: HostRuntime) {
 // The 24th read is the one that finds the end.
 #[test]
 fn reports_a_read_that_fails(rt: HostRuntime) {
-    let whole = sealed(&rt, b"abc", ABC);
     for n in 1..=24 {
         for &fault in &[Fault::AtCall(n), Fault::InterruptedAt(n)] {
-            let mut input = Plain::new(Reader::new(&whole, 1, fault));
+            let mut input = Plain::new(Reader::new(SEALED, 1, fault));
             expect!(&rt; matches!(check_seal(&mut input, Kind::Sha1), Err(PipeError::Input)), n);
             expect!(&rt; input.failed(), n);
             expect!(&rt; input.into_inner().calls == n, n);

@@ -1,8 +1,9 @@
 //! No device is called after a failure of it or of another.
 
 use crate::expecting::expect;
-use gix_hash::Kind;
-use oidtool_commands::{Command, run_command};
+use crate::oidtool_commands_running::{Words, command_of};
+use crate::well_known::TREE_BLOB;
+use oidtool_commands::run_command;
 use std::fs;
 use std::io::{BufWriter, ErrorKind};
 use std::process::Abort;
@@ -11,10 +12,6 @@ use std::test::Fail;
 use streams::{BufferedSink, Plain, Sink, Source};
 use test_devices::watched::{Course, Watch, Watched};
 use test_devices::{Fault, Reader, Writer};
-
-// The empty tree and the empty blob of SHA-1.
-const LIST: &str =
-    "4b825dc642cb6eb9a060e54bf8d69288fbee4904\ne69de29bb2d1d6434b8b29ae775ad8c2e48c5391\n";
 
 // How many bytes a reader gives and a writer takes in a call.
 const READ: usize = 41;
@@ -26,41 +23,27 @@ const FILE: &str = "oidtool-stops-at-a-failure";
 
 // The commands, and how often each reads and writes if nothing fails: two chunks and the end are
 // read, a line of 41 bytes takes six writes, and the digest of a sealed list takes three.
-const COMMANDS: [(Command<'_>, usize, usize); 6] = [
-    (Command::Find { prefix: "4b82" }, 3, 6),
-    (Command::FindChange { letters: "LTQM" }, 3, 6),
-    (
-        Command::FindIn {
-            kind: Kind::Sha1,
-            prefix: "4b82",
-        },
-        3,
-        6,
-    ),
-    (Command::Hash { kind: Kind::Sha1 }, 3, 6),
-    (
-        Command::HashFile {
-            kind: Kind::Sha1,
-            count: 3,
-            path: FILE,
-        },
-        0,
-        6,
-    ),
-    (Command::Seal { kind: Kind::Sha1 }, 3, 15),
+const COMMANDS: [(Words, usize, usize); 6] = [
+    (&["find", "4b82"], 3, 6),
+    (&["find-change", "LTQM"], 3, 6),
+    (&["find-in", "sha1", "4b82"], 3, 6),
+    (&["hash", "sha1"], 3, 6),
+    (&["hash-file", "sha1", "3", FILE], 0, 6),
+    (&["seal", "sha1"], 3, 15),
 ];
 
 // Runs the command over devices with these faults, and compares how they fared. The writer has a
 // buffer that is too small for a line.
 fn expect_course_of_command(
     rt: &(impl Abort + Files + AllocGlobal),
-    command: Command<'_>,
+    words: &[&str],
     read: Fault,
     (chunk, write): (usize, Fault),
     want: Course,
 ) {
+    let command = command_of(rt, words);
     let watch = Watch::new();
-    let reader = Reader::new(LIST.as_bytes(), READ, read);
+    let reader = Reader::new(TREE_BLOB.as_bytes(), READ, read);
     let mut input = Plain::new(Watched::new(reader, &watch));
     let writer = Watched::new(Writer::new(rt.alloc(), chunk, write), &watch);
     let buffered = BufWriter::with_capacity(rt.alloc(), 4, writer).expect(
@@ -69,25 +52,25 @@ fn expect_course_of_command(
     );
     let mut out = Plain::new(buffered);
     let outcome = run_command(rt, rt.alloc(), command, &mut input, &mut out);
-    expect!(rt; watch.course() == want, command);
-    expect!(rt; outcome.is_ok() == (want == Course::Fine), command);
+    expect!(rt; watch.course() == want, words);
+    expect!(rt; outcome.is_ok() == (want == Course::Fine), words);
 }
 
 #[test]
 fn commands_stop_at_a_failure(rt: HostRuntime) -> Result<(), Fail> {
     fs::write(&rt, FILE, b"abc")?;
     let never = Fault::Never;
-    for &(command, reads, writes) in &COMMANDS {
+    for &(words, reads, writes) in &COMMANDS {
         for n in 1..=16 {
             let of_reads = Course::of_fault(n, reads);
             let of_writes = Course::of_fault(n, writes);
             for &fault in &[Fault::AtCall(n), Fault::InterruptedAt(n)] {
-                expect_course_of_command(&rt, command, fault, (WRITTEN, never), of_reads);
-                expect_course_of_command(&rt, command, never, (WRITTEN, fault), of_writes);
+                expect_course_of_command(&rt, words, fault, (WRITTEN, never), of_reads);
+                expect_course_of_command(&rt, words, never, (WRITTEN, fault), of_writes);
             }
         }
         for &writer in &[(0, never), (usize::MAX, Fault::AtFlush)] {
-            expect_course_of_command(&rt, command, never, writer, Course::Failed);
+            expect_course_of_command(&rt, words, never, writer, Course::Failed);
         }
     }
     fs::remove_file(&rt, FILE)?;

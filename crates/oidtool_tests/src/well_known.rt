@@ -14,8 +14,21 @@ pub const BLOB_256: &str = "473a0f4c3be8a93681a267e3b1e9a7dcda1185436fe141f77491
 
 pub const TREE_256: &str = "6ef19b41225c5369f1c104d45d8d85efa9b057b53b14b4b9b939dd74decc5321\n";
 
-/// The four in the order of ids.
-pub const WELL_KNOWN: [&str; 4] = [BLOB_256, TREE, TREE_256, BLOB];
+/// The text of the four in the order of ids.
+pub const ALL: &str = "473a0f4c3be8a93681a267e3b1e9a7dcda1185436fe141f7749120a303721813
+4b825dc642cb6eb9a060e54bf8d69288fbee4904
+6ef19b41225c5369f1c104d45d8d85efa9b057b53b14b4b9b939dd74decc5321
+e69de29bb2d1d6434b8b29ae775ad8c2e48c5391
+";
+
+/// The text of the two of SHA-1, in order and out of order.
+pub const TREE_BLOB: &str = "4b825dc642cb6eb9a060e54bf8d69288fbee4904
+e69de29bb2d1d6434b8b29ae775ad8c2e48c5391
+";
+
+pub const BLOB_TREE: &str = "e69de29bb2d1d6434b8b29ae775ad8c2e48c5391
+4b825dc642cb6eb9a060e54bf8d69288fbee4904
+";
 
 /// The two of SHA-1 in the letters of change ids.
 pub const BLOB_LETTERS: &str = "ltqmlxqooxmymtvwvoroxqplssupmrnxlvrnuwqy\n";
