@@ -162,14 +162,6 @@ impl<R: Files<File = File>> StoreFile<R> {
         self.len <= self.window as u64 || self.may_keep_all && is_worth_it
     }
 
-    // Fills the buffer from the file.
-    fn read(&self, buf: &mut [u8], at: u64) -> io::Result<()> {
-        match &self.file {
-            Some(file) => ReadAt::read_exact_at(file, buf, at),
-            None => ReadAt::read_exact_at(&fs::open(&self.rt, self.path.as_str())?, buf, at),
-        }
-    }
-
     // The bytes that are kept where `len` bytes from a position on are read: where they begin, and
     // how many they are. `None` if none are, since those that are read are many.
     fn to_keep(&self, len: usize, at: u64) -> Option<(u64, usize)> {
@@ -189,16 +181,24 @@ impl<R: Files<File = File>> StoreFile<R> {
     // kept, if they are few. If memory runs out, none are kept.
     #[inline(never)]
     fn read_more(&self, buf: &mut [u8], at: u64) -> io::Result<()> {
+        let opened;
+        let file = match &self.file {
+            Some(file) => file,
+            None => {
+                opened = fs::open(&self.rt, self.path.as_str())?;
+                &opened
+            }
+        };
         if let Some((start, len)) = self.to_keep(buf.len(), at) {
             if let Some(mut bytes) = self.take_room(len) {
-                self.read(&mut bytes, start)?;
+                ReadAt::read_exact_at(file, &mut bytes, start)?;
                 let _ = self.kept.try_replace(Kept { start, bytes });
             }
             if self.copy_kept(buf, at) {
                 return Ok(());
             }
         }
-        self.read(buf, at)
+        ReadAt::read_exact_at(file, buf, at)
     }
 
     // Fills the buffer from what is kept, if that has the bytes.
