@@ -1,6 +1,6 @@
 //! An object directory in memory, which has a pack and a loose object.
 
-ghost use Rattle.std.specs.Prelude.{◌≡◌, Some, false};
+ghost use Rattle.std.specs.Prelude.{Some, false};
 ghost use Rattle.known_tree.specs.Trees.{answers_in, is_file, look_at, names_at};
 ghost use Rattle.repositories.specs.Answers.{IsCallAnswer};
 

@@ -1,7 +1,7 @@
 //! The abbreviations of the ids of a store.
 
-ghost use Rattle.std.specs.Prelude.{◌≡◌, ◌≢◌, ◌↔◌, ◌⊎◌, ◌<◌, ◌≤◌, ◌∷◌, ◌++◌, ℕ, [], false, true, flat_map, length, All, IfErr, IfOk, IsErrOf, IsTrue};
-ghost use Rattle.id_lookup.specs.Words.{hex_len_of, hex_letter, spelling};
+ghost use Rattle.std.specs.Prelude.{◌≡◌, ◌≢◌, ◌↔◌, ◌⊎◌, ◌<◌, ◌≤◌, ℕ, [], false, true, flat_map, length, IfErr, IfOk, IsErrOf, IsTrue};
+ghost use Rattle.id_lookup.specs.Words.{hex_len_of};
 ghost use Rattle.object_store.specs.Several.{AreAbbreviated, IsAbbreviated, id_count};
 ghost use Rattle.object_store.specs.Stores.{HaveMore, IsFaultOfOne, IsListed, IsReopened, IsStoreFault};
 ghost use Rattle.packtool_commands.specs.Stores.{AreListed, HasAbbreviatedAtMost, HasAbbreviatedBelow, HasAbbreviatedEach, HasBegunAbbreviatedEach, IsFaultOf, IsWalkFault, abbreviation_text, abbreviated_line, no_abbreviation};

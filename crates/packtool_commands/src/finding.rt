@@ -1,6 +1,6 @@
 //! The ids of a store that begin with each line of a text.
 
-ghost use Rattle.std.specs.Prelude.{◌≡◌, ◌≢◌, ◌↔◌, ◌<◌, false, true, length, All, IfErr, IfOk, IsErrOf};
+ghost use Rattle.std.specs.Prelude.{◌≡◌, ◌≢◌, ◌↔◌, ◌<◌, false, true, length, IfErr, IfOk, IsErrOf};
 ghost use Rattle.id_lookup.specs.Words.{id_digits};
 ghost use Rattle.object_store.specs.Stores.{HaveMoreMatches, IsFaultOfOne, IsReopened};
 ghost use Rattle.packtool_commands.specs.Stores.{AreListed, HasAnsweredMatches, HasBegunMatches, IsFaultOf, id_line};

@@ -1,6 +1,6 @@
 //! The locations of the objects of a store, a line for each.
 
-ghost use Rattle.std.specs.Prelude.{◌≡◌, ◌≢◌, ◌↔◌, ◌<◌, ◌≤◌, [], ◌∷◌, ◌++◌, false, true, length, take, All, IfErr, IfOk, IsErrOf};
+ghost use Rattle.std.specs.Prelude.{◌≡◌, ◌≢◌, ◌↔◌, ◌<◌, ◌≤◌, [], ◌∷◌, ◌++◌, false, true, length, take, IfErr, IfOk, IsErrOf};
 ghost use Rattle.id_lookup.specs.Words.{hex_letter, id_digits, spelling};
 ghost use Rattle.object_store.specs.Several.{HaveMoreLocations, IsLocationsFaultOfOne};
 ghost use Rattle.object_store.specs.Stores.{IsReopened};

@@ -2,7 +2,7 @@
 
 ghost use Rattle.std.specs.Prelude.{◌≡◌, ◌++◌, ◌∷◌, ℕ, Bool, List, IfOk, OnErr, OnOk, Option, Some, false, option_copied, true};
 ghost use Rattle.std.specs.Io.KnownBytes.{Appends};
-ghost use Rattle.std.specs.Option.{option_map_or, option_or};
+ghost use Rattle.std.specs.Option.{option_map_or};
 ghost use Rattle.packtool_commands.specs.Stores.{answer_of, answers_by, found_text, limit_for, no_answer, no_answer_by, with_found};
 ghost use Rattle.packtool_commands.specs.declared.printing.NoAnswer.{NoAnswer};
 ghost use Rattle.streams.specs.Streams.{AppendsBeginning, Wrote, lines_of};

@@ -1,6 +1,6 @@
 //! What is asked of the store of an object directory, which is kept from one request to the next.
 
-ghost use Rattle.std.specs.Prelude.{◌≡◌, ◌↔◌, ◌≤◌, ◌++◌, [], All, Bool, IfOk, IsErrOf, IsSomeAnd, IsTrue, Ok, OnOk, Some, false, if◌then◌else◌, is_none, max, true};
+ghost use Rattle.std.specs.Prelude.{◌≡◌, ◌↔◌, ◌≤◌, ◌++◌, [], All, Bool, IfOk, IsErrOf, IsSomeAnd, IsTrue, Ok, OnOk, Some, false, if◌then◌else◌, max, true};
 ghost use Rattle.std.specs.Global.{Global};
 ghost use Rattle.std.proofs.Props.{props};
 ghost use Rattle.std.specs.Option.{ForSome};
