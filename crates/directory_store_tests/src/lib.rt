@@ -17,6 +17,8 @@ mod directory_store_source;
 mod directory_store_store;
 #[cfg(test)]
 mod expecting;
+#[cfg(test)]
+mod mem_directories;
 mod mem_tree;
 #[cfg(test)]
 mod moving;

@@ -1,9 +1,10 @@
 use Rattle.gix_hash.proofs.Std.{◌∙◌, ap}
 use Rattle.repositories.specs.Answers.{Answers}
+use Rattle.directory_store_tests.specs.Trees.{answer, link_of}
 use Rattle.directory_store_tests.proofs.Trees.{answers_are}
-use Rattle.directory_store_tests.proofs.mem_tree.MemTreeDirectories.read.Goals as goal
+use Rattle.directory_store_tests.proofs.mem_directories.MemTreeDirectories.read_link.Goals as goal
 
 pub returns-in-Err : goal.returns-in-Err
 returns-in-Err c = λ at known other.
     let is = answers_are c.args.self.now at known in
-    ap (λ (a : Answers). a.bytes c.args.path.now) is.1 ∙ c.in-Err.ensures is.0
+    ap (λ (a : Answers). a.link c.args.path.now) is.1 ∙ ap (answer link_of) (c.in-Err.ensures is.0)

@@ -2,7 +2,7 @@ use Rattle.gix_hash.proofs.Std.{◌∙◌, ap}
 use Rattle.repositories.specs.Answers.{Answers}
 use Rattle.directory_store_tests.specs.Trees.{answer, look_at}
 use Rattle.directory_store_tests.proofs.Trees.{answers_are}
-use Rattle.directory_store_tests.proofs.mem_tree.MemTreeDirectories.look.Goals as goal
+use Rattle.directory_store_tests.proofs.mem_directories.MemTreeDirectories.look.Goals as goal
 
 pub returns-in-Err : goal.returns-in-Err
 returns-in-Err c = λ at known other.

@@ -1,7 +1,7 @@
 use Rattle.gix_hash.proofs.Std.{◌∙◌, ap, refl}
 use Rattle.repositories.specs.Answers.{Answers, front}
 use Rattle.directory_store_tests.proofs.Trees.{answers_are}
-use Rattle.directory_store_tests.proofs.mem_tree.MemTreeDirectories.read_front.Goals as goal
+use Rattle.directory_store_tests.proofs.mem_directories.MemTreeDirectories.read_front.Goals as goal
 
 pub returns-in-Err : goal.returns-in-Err
 returns-in-Err c = λ at known other.

@@ -1,7 +1,7 @@
 use Rattle.gix_hash.proofs.Std.{◌∙◌, Err, ap, sym}
 use Rattle.repositories.specs.Answers.{Answers}
 use Rattle.directory_store_tests.proofs.Trees.{answers_are}
-use Rattle.directory_store_tests.proofs.mem_tree.MemTreeDirectories.names.Goals as goal
+use Rattle.directory_store_tests.proofs.mem_directories.MemTreeDirectories.names.Goals as goal
 
 pub returns : goal.returns
 returns c = λ at known other.
