@@ -1,6 +1,6 @@
 -- Things that are done one after the other.
 use Rattle.gix_hash.proofs.Std.{[], ◌++◌, ◌∷◌, ℕ, List, arith, max, refl}
-use Rattle.packtool.specs.Verdicts.{AreDone}
+use Rattle.packtool.specs.Files.{AreDone}
 
 -- one thing more is done
 pub done-more : {X T : Type 0} (IsDone : X → ℕ → T → T → Type 0) (xs : List X) (x : X) (worst own : ℕ) (old middle new : T) → AreDone IsDone xs worst old middle

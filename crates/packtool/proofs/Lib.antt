@@ -1,3 +1,1 @@
 pub mod Done
-pub mod SameIds
-pub mod SomeBytes

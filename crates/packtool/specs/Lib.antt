@@ -1,3 +1,3 @@
 pub mod Arguments
 pub mod Failures
-pub mod Verdicts
+pub mod Files

@@ -9,21 +9,20 @@
 
 ghost use Rattle.std.specs.Prelude.{◌≡◌, ◌≢◌, ◌↔◌, ◌++◌, ◌∷◌, ℕ, [], All, IfErr, IfOk, IsNone, IsTrue, List, string_bytes};
 ghost use Rattle.packtool.specs.Failures.{IsClosedPipe, status_of_file};
-ghost use Rattle.packtool.specs.Verdicts.{AreDone, IsRead};
+ghost use Rattle.packtool.specs.Files.{AreDone, IsRead};
 ghost use Rattle.streams.specs.Devices.{plain_failed, plain_inner};
 
 mod arguments;
-mod files;
-mod multi;
-mod progress;
 mod words;
 
 use arguments::{FileCommand, FileRequest, Request};
+use file_commands::{FileFailure, check, first_due, show};
 use gix_hash::Kind;
+use packtool_commands::lossy_text;
 use std::io::{self, ErrorKind};
 use std::process::ExitCode;
 use std::time::Instant;
-use store_questions::{FAILED, FOUND, Failure, NOTHING, buffered, flushed, lossy_text, report};
+use store_questions::{FAILED, FOUND, Failure, NOTHING, buffered, flushed, report};
 use streams::Plain;
 
 // How errors of the command line begin. All others begin with the program's name.
@@ -134,7 +133,7 @@ fn read_each<'a, W: io::Write>(
         (W.contents (plain_inner before)) (W.contents (plain_inner after)))
         request.now.paths.now status out.old out.new) }
 {
-    let due = progress::first_due(rt, !request.no_progress);
+    let due = first_due(rt, !request.no_progress);
     let mut status = FOUND;
     for path in request.paths {
         status = status.max(read_file(rt, request.command, path, request.kind, due, out)?);
@@ -156,8 +155,8 @@ fn read_file<'a, W: io::Write>(
         (W.contents (plain_inner out.old)) (W.contents (plain_inner out.new))) }
 {
     let outcome = match command {
-        FileCommand::Show => files::show(rt, path, kind, out),
-        FileCommand::Check => files::check(rt, path, kind, due, out),
+        FileCommand::Show => show(rt, path, kind, out),
+        FileCommand::Check => check(rt, path, kind, due, out),
     };
     status_of_file(rt, outcome)
 }
@@ -165,17 +164,18 @@ fn read_file<'a, W: io::Write>(
 // The status of a file that was shown or checked. If it cannot be read, that is reported.
 fn status_of_file<'a>(
     rt: &HostRuntime,
-    outcome: Result<bool, Failure<'a>>,
+    outcome: Result<bool, FileFailure>,
 ) -> Result<u8, Failure<'a>>
-    ensures { result ≡ status_of_file outcome.entry }
+    ensures { result ≡ status_of_file outcome }
 {
     match outcome {
         Ok(true) => Ok(FOUND),
         Ok(false) => Ok(NOTHING),
-        Err(failure) if matches!(failure, Failure::File { .. }) => {
+        Err(FileFailure::Output(error)) => Err(Failure::Output(error)),
+        Err(FileFailure::Memory(_)) => Err(Failure::Memory),
+        Err(failure @ FileFailure::Unread { .. }) => {
             report(rt, &failure, "");
             Ok(FAILED)
         }
-        Err(failure) => Err(failure),
     }
 }

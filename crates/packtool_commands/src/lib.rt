@@ -7,7 +7,8 @@
 //! ids. [`show`] writes the lines of a pack index as `git show-index` does. [`open_index`] opens a
 //! pack index. [`write_ending`] writes whether a file ends with its digest, [`write_pairing`]
 //! whether a pack index belongs to the pack beside it, as [`pair`] finds, and [`write_named`]
-//! another line of a file. These three escape names as `sha1sum` does.
+//! another line of a file. These three escape names as `sha1sum` does. [`lossy_text`] tells a word
+//! of the command line that is not UTF-8.
 #![tactic(auto)]
 
 mod abbreviating;
@@ -24,6 +25,7 @@ mod prefixes;
 mod printing;
 mod reopening;
 mod showing;
+mod words;
 
 pub use abbreviating::{abbreviate_all, abbreviate_each, write_abbreviated};
 pub use ending::write_ending;
@@ -35,3 +37,4 @@ pub use pairing::{Pairing, pair, write_pairing};
 pub use prefixes::{PrefixLines, prefix_in};
 pub use printing::{NoAnswer, Wanted};
 pub use showing::{open_index, show};
+pub use words::lossy_text;

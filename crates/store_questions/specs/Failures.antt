@@ -1,5 +1,5 @@
 -- What contracts say of why a command stops, or skips a part of a store.
-use Rattle.std.specs.Prelude.{◌≡◌, List, Option, Some, codes, string_bytes, ℕ}
+use Rattle.std.specs.Prelude.{List, Option, Some, codes, ℕ}
 use Rattle.object_store.specs.declared.error.Error.{Error as LookUpError}
 use Rattle.object_store.specs.declared.error.Error.TheVariants as look_ups
 use Rattle.pack_index.specs.declared.error.Error.TheVariants.{Version1}
@@ -7,14 +7,7 @@ use Rattle.pack_index.specs.declared.lazy_error.LazyError.TheVariants.{Head}
 use Rattle.directory_store.specs.declared.error.Error.{Error as StoreError}
 use Rattle.directory_store.specs.declared.error.Error.TheVariants.{Index}
 use Rattle.store_questions.specs.declared.failure.Failure.{Failure}
-use Rattle.store_questions.specs.declared.failure.Failure.TheVariants.{File, LookUp, Memory, Store}
-use Rattle.store_questions.specs.declared.failure.FileWhy.{FileWhy}
-
--- a file of this path is not shown or checked, for this reason; or memory ran out
-abbrev pub IsAt : FileWhy → List ℕ → Failure → Type 0
-IsAt why path (File text boxed) = (string_bytes text ≡ path) × (boxed.value ≡ why)
-IsAt why path Memory = Unit {0}
-IsAt why path _ = ⊥
+use Rattle.store_questions.specs.declared.failure.Failure.TheVariants.{LookUp, Store}
 
 -- why a look-up in a store fails; or, if a pack index was gone, why the store could not be opened again then, if that failed
 abbrev pub failure_of : LookUpError → Option StoreError → Failure

@@ -14,14 +14,14 @@ ghost use Rattle.store_questions.specs.Written.{HasWritten};
 
 use crate::FOUND;
 use crate::asked::Asked;
-use crate::failure::{Failure, expect_text};
+use crate::failure::Failure;
 use crate::line_reader::LineReader;
 use crate::output::{buffered, flushed, report};
 use crate::request::{Ask, StoreRequest};
-use crate::words::{beginning, lossy_text};
+use crate::words::beginning;
 use directory_store::StoreFiles;
 use gix_hash::Kind;
-use packtool_commands::{Wanted, prefix_in};
+use packtool_commands::{Wanted, lossy_text, prefix_in};
 use repositories::{ObjectDirectory, find_objects};
 use std::io::{self, BufWriter};
 use streams::{Plain, Retrying};
@@ -199,7 +199,9 @@ fn objects_directory<'a>(
 {
     let mut directory = match request.objects {
         Some(path) => {
-            expect_text(rt, path)?;
+            if let Some(path) = lossy_text(path) {
+                return Err(Failure::PathNotText { path });
+            }
             ObjectDirectory::at(rt, path)?
         }
         None => find_objects(rt)?,

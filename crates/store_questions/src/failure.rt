@@ -1,11 +1,10 @@
 //! Why the program stops.
 
-ghost use Rattle.std.specs.Prelude.{◌≡◌, ◌≢◌, ◌++◌, ◌∷◌, [], List, OnOk, Some, ℕ};
-ghost use Rattle.store_questions.specs.Failures.{IsAt, skipped_mark};
+ghost use Rattle.std.specs.Prelude.{◌≡◌, Some};
+ghost use Rattle.store_questions.specs.Failures.{skipped_mark};
 ghost use Rattle.store_questions.specs.declared.failure.Failure.TheVariants as failures;
 ghost use Rattle.streams.specs.Devices.{plain_error};
 
-use crate::words::lossy_text;
 use object_store::Error as LookUpError;
 use pack_index::LazyError;
 use std::alloc::AllocError;
@@ -25,13 +24,11 @@ pub enum Failure<'a> {
     /// A look-up in the store fails.
     #[error(transparent)]
     LookUp(LookUpError),
-    /// This file cannot be read, or is not what it should be.
-    #[error("{path}: {why}")]
-    File {
-        /// Its path.
-        path: String,
-        /// Why.
-        why: Box<FileWhy>,
+    /// The path of an object directory is not UTF-8, which paths are.
+    #[error("{path}: the name is not UTF-8")]
+    PathNotText {
+        /// Its text, with replacement characters.
+        path: &'a str,
     },
     /// A text that begins with this is not a prefix.
     #[error("{text}: not 2 to {most} hex digits")]
@@ -90,49 +87,6 @@ impl Failure<'_> {
         ensures { (error : _) → plain_error out.now ≡ Some error → result ≡ Failure.Output error }
     {
         Failure::Output(out.error().unwrap_or(io::ErrorKind::WriteZero.into()))
-    }
-}
-
-/// Why a file is not shown or checked.
-#[derive(Debug, Drop, ThisError)]
-pub enum FileWhy {
-    /// It cannot be read.
-    #[error(transparent)]
-    Read(#[from] io::Error),
-    /// Its name is not UTF-8, which paths are.
-    #[error("the name is not UTF-8")]
-    NotText,
-    /// It is a directory, a pipe or a device.
-    #[error("not a regular file")]
-    NotRegular,
-    /// It is not a pack index.
-    #[error(transparent)]
-    Index(pack_index::Error),
-    /// It has 2^61 bytes or more.
-    #[error("too long")]
-    TooMuch,
-}
-
-/// Fails if the name of a file is not UTF-8.
-pub fn expect_text<'a>(rt: &HostRuntime, path: &str) -> Result<(), Failure<'a>>
-    ensures { OnOk result ((text : List ℕ) → path.now ≢ text ++ (0 ∷ [])) }
-{
-    match lossy_text(path) {
-        Some(text) => Err(file_failure(rt, text, FileWhy::NotText)),
-        None => Ok(()),
-    }
-}
-
-/// Why a file of this path is not shown or checked; or that memory ran out.
-pub fn file_failure<'a>(rt: &HostRuntime, path: &str, why: FileWhy) -> Failure<'a>
-    ensures { IsAt why path.now result }
-{
-    match (
-        String::from_str(rt.alloc(), path),
-        Box::new(rt.alloc(), why),
-    ) {
-        (Ok(path), Ok(why)) => Failure::File { path, why },
-        _ => Failure::Memory,
     }
 }
 

@@ -11,10 +11,9 @@ mod request;
 mod words;
 
 pub use answering::{answer, answer_in};
-pub use failure::{Failure, FileWhy, expect_text, file_failure};
+pub use failure::Failure;
 pub use output::{buffered, flushed, report};
 pub use request::{Ask, Question, StoreRequest};
-pub use words::lossy_text;
 
 /// The status if something was found.
 pub const FOUND: u8 = 0;

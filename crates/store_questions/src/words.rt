@@ -1,6 +1,6 @@
 //! Words of the command line in messages.
 
-ghost use Rattle.std.specs.Prelude.{◌≡◌, ◌≢◌, ◌++◌, ◌≤◌, [], ◌∷◌, List, ℕ, length, MatchOption};
+ghost use Rattle.std.specs.Prelude.{◌≤◌, length};
 ghost use Rattle.std.specs.Io.{StartsWith};
 
 /// The first bytes of a text, at most 80, up to the end of a character.
@@ -12,12 +12,4 @@ pub fn beginning(text: &str) -> &str
         Some(beginning) => beginning,
         None => "",
     }
-}
-
-/// The text of a word whose argument is not UTF-8, or `None` if it is.
-pub fn lossy_text(word: &str) -> Option<&str>
-    ensures { MatchOption result ((text : List ℕ) → word.now ≢ text ++ (0 ∷ []))
-        (λ text. word.now ≡ text.now ++ (0 ∷ [])) }
-{
-    word.strip_suffix("\0")
 }

@@ -1,6 +1,6 @@
 use Rattle.gix_hash.proofs.Std.{take}
 use Rattle.streams.specs.Devices.{plain_failed, plain_inner}
-use Rattle.packtool.specs.Verdicts.{AreDone, IsRead}
+use Rattle.packtool.specs.Files.{AreDone, IsRead}
 use Rattle.packtool.proofs.read_each.Given as goal
 
 abbrev pub invariant-loop-path : goal.invariant-loop-path

@@ -1,0 +1,2 @@
+pub mod SameIds
+pub mod SomeBytes

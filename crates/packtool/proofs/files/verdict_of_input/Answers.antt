@@ -1,5 +1,0 @@
-use Rattle.packtool.proofs.SomeBytes.{said-on-some}
-use Rattle.packtool.proofs.files.verdict_of_input.Goals as goal
-
-pub returns : goal.returns
-returns c = said-on-some c.args.kind _ c.verdict_of_index.result c.verdict_of_index.ensures

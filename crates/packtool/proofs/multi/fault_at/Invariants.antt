@@ -1,5 +1,0 @@
-use Rattle.gix_hash.proofs.Std.{length, ◌≡◌}
-use Rattle.packtool.proofs.multi.fault_at.Given as goal
-
-abbrev pub invariant-loop-name : goal.invariant-loop-name
-invariant-loop-name g l = length l.found.items ≡ length l.own.items
