@@ -11,9 +11,10 @@ ghost use Rattle.streams.specs.Devices.{plain_failed, plain_inner};
 
 use crate::tree::Tree;
 use gix_hash::Kind;
+use packtool_commands::StoreRequest;
 use repositories::ObjectDirectory;
 use std::io::{self, BufWriter};
-use store_questions::{Failure, StoreRequest, answer_in};
+use store_questions::{Failure, answer_in};
 use streams::Plain;
 
 /// Looks up what a request asks for in the tree. A call that returns 0 or 1 has written exactly

@@ -1,9 +1,9 @@
 use crate::known::answer_in_tree;
 use crate::tree::Tree;
 use gix_hash::Kind;
-use packtool_commands::Wanted;
+use packtool_commands::{Ask, Question, StoreRequest, Wanted};
 use std::test::Fail;
-use store_questions::{Ask, FOUND, Question, StoreRequest, buffered, flushed};
+use store_questions::{FOUND, buffered, flushed};
 use test_devices::ids::{ids_of, pack_index};
 
 #[test]

@@ -1,8 +1,8 @@
 -- What contracts say of the files that a command reads.
 use Rattle.std.specs.Prelude.{ℕ, ◌≡◌, ◌≢◌, ◌↔◌, ◌∷◌, [], Bool, IsTrue, List, Option, false, max}
 use Rattle.file_commands.specs.Verdicts.{IsChecked}
-use Rattle.packtool.specs.declared.arguments.FileCommand.{FileCommand}
-use Rattle.packtool.specs.declared.arguments.FileCommand.TheVariants.{Check, Show}
+use Rattle.packtool_arguments.specs.declared.arguments.FileCommand.{FileCommand}
+use Rattle.packtool_arguments.specs.declared.arguments.FileCommand.TheVariants.{Check, Show}
 
 -- a file was shown or checked, and this is the status: 2 if it could not be read; else 0 if a line was written for `show` or the file passed its check, and 1 if
 -- not; the line of a checked file was written, unless the output failed

@@ -12,12 +12,11 @@ ghost use Rattle.packtool.specs.Failures.{IsClosedPipe, status_of_file};
 ghost use Rattle.packtool.specs.Files.{AreDone, IsRead};
 ghost use Rattle.streams.specs.Devices.{plain_failed, plain_inner};
 
-mod arguments;
 mod words;
 
-use arguments::{FileCommand, FileRequest, Request};
 use file_commands::{FileFailure, check, first_due, show};
 use gix_hash::Kind;
+use packtool_arguments::{FileCommand, FileRequest, Request, command, read_request};
 use packtool_commands::lossy_text;
 use std::io::{self, ErrorKind};
 use std::process::ExitCode;
@@ -63,11 +62,11 @@ fn is_closed_pipe(failure: &Failure<'_>) -> bool
 
 // Runs the command that the words ask for, over standard output, and returns the status.
 fn run_words<'a>(rt: &HostRuntime, words: &'a [String]) -> Result<u8, Failure<'a>> {
-    let matches = match arguments::command(rt.alloc())?.try_get_matches_from(words) {
+    let matches = match command(rt.alloc())?.try_get_matches_from(words) {
         Ok(matches) => matches,
         Err(error) => return print_usage(rt, words, &error),
     };
-    match arguments::read_request(&matches) {
+    match read_request(&matches) {
         Some(Request::Store(request)) => store_questions::answer(rt, &request),
         Some(Request::Files(request)) => read_files(rt, &request),
         None => Ok(FAILED),

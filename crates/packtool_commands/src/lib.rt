@@ -24,6 +24,7 @@ mod pairing;
 mod prefixes;
 mod printing;
 mod reopening;
+mod request;
 mod showing;
 mod words;
 
@@ -36,5 +37,6 @@ pub use locating::locate_each;
 pub use pairing::{Pairing, pair, write_pairing};
 pub use prefixes::{PrefixLines, prefix_in};
 pub use printing::{NoAnswer, Wanted};
+pub use request::{Ask, Question, StoreRequest};
 pub use showing::{open_index, show};
 pub use words::lossy_text;

@@ -27,8 +27,8 @@ use Rattle.packtool_commands.proofs.AnswerLemmas.{are_long}
 use Rattle.packtool_commands.proofs.EachLine.{answered_each, text_seen}
 use Rattle.store_questions.specs.Answers.{HasAnsweredLines, IsStatus}
 use Rattle.store_questions.specs.Written.{IsAnswerTo, by_first_byte}
-use Rattle.store_questions.specs.declared.request.Question.{Question}
-use Rattle.store_questions.specs.declared.request.Question.TheVariants.{Abbreviate, Find, Locate}
+use Rattle.packtool_commands.specs.declared.request.Question.{Question}
+use Rattle.packtool_commands.specs.declared.request.Question.TheVariants.{Abbreviate, Find, Locate}
 
 zip-map : {X Y : Type 0} (P Q : X → Y → Type 0) (C : X → Type 0) → ((x : X) (y : Y) → C x → P x y → Q x y) → (xs : List X) (ys : List Y) → All C xs → AllZip P xs ys → AllZip Q xs ys
 zip-map P Q C f [] [] can all = tt

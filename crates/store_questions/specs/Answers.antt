@@ -7,8 +7,8 @@ use Rattle.object_store.specs.Stores.{StoreView}
 use Rattle.streams.specs.Streams.{lines_of}
 use Rattle.store_questions.specs.WholeLines.{AreWhole}
 use Rattle.store_questions.specs.declared.request.Query.{Query}
-use Rattle.store_questions.specs.declared.request.Question.{Question}
-use Rattle.store_questions.specs.declared.request.Question.TheVariants.{Abbreviate, Find, Locate}
+use Rattle.packtool_commands.specs.declared.request.Question.{Question}
+use Rattle.packtool_commands.specs.declared.request.Question.TheVariants.{Abbreviate, Find, Locate}
 use Rattle.packtool_commands.specs.Stores.{HasAnsweredMatches, HasLocatedEach, HasAbbreviatedEach, prefixes_of}
 use Rattle.packtool_commands.specs.declared.printing.Wanted.{Wanted}
 use Rattle.repositories.specs.Answers.{Answers, IfKnown}

@@ -11,10 +11,10 @@ use Rattle.object_store.specs.declared.abbreviations.AbbreviatedId.{AbbreviatedI
 use Rattle.packtool_commands.specs.Stores.{HasAnsweredEach, IsTextOf, abbreviation_text, found_text, id_line, limit_for, located_lines, abbreviated_line}
 use Rattle.packtool_commands.specs.declared.printing.Wanted.{Wanted}
 use Rattle.streams.specs.Streams.{lines_of}
-use Rattle.store_questions.specs.declared.request.Ask.{Ask}
-use Rattle.store_questions.specs.declared.request.Ask.TheVariants as asks
-use Rattle.store_questions.specs.declared.request.Question.{Question}
-use Rattle.store_questions.specs.declared.request.Question.TheVariants.{Abbreviate, Find, Locate}
+use Rattle.packtool_commands.specs.declared.request.Ask.{Ask}
+use Rattle.packtool_commands.specs.declared.request.Ask.TheVariants as asks
+use Rattle.packtool_commands.specs.declared.request.Question.{Question}
+use Rattle.packtool_commands.specs.declared.request.Question.TheVariants.{Abbreviate, Find, Locate}
 
 -- a text answers a line: for `find` it has the objects that begin with the prefix, for `locate` it has locations of each of them, or of the first two if one is
 -- asked for, and for `abbreviate` it has the abbreviation of the only one

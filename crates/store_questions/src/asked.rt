@@ -20,14 +20,14 @@ ghost use Rattle.store_questions.specs.declared.failure.Failure.{Failure};
 
 use crate::failure::{Failure, skipped_mark};
 use crate::output::{buffered, write_report};
-use crate::request::{Query, Question, StoreRequest};
+use crate::request::Query;
 use crate::{FAILED, FOUND, NOTHING};
 use directory_store::{DirectoryStore, Error, LooseIds, Purpose, StoreFiles};
 use gix_hash::{Kind, Prefix};
 use object_store::{Reopen, Store, StorePaths};
 use packtool_commands::{
-    NoAnswer, PrefixLines, StoreError, Wanted, abbreviate_all, abbreviate_each, find_each,
-    locate_each,
+    NoAnswer, PrefixLines, Question, StoreError, StoreRequest, Wanted, abbreviate_all,
+    abbreviate_each, find_each, locate_each,
 };
 use repositories::ObjectDirectory;
 use std::alloc::{AllocError, Global};

@@ -13,7 +13,6 @@ mod words;
 pub use answering::{answer, answer_in};
 pub use failure::Failure;
 pub use output::{buffered, flushed, report};
-pub use request::{Ask, Question, StoreRequest};
 
 /// The status if something was found.
 pub const FOUND: u8 = 0;

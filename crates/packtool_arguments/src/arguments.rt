@@ -3,13 +3,12 @@
 ghost use Rattle.std.specs.Prelude.{◌≡◌, Bool, IfSome, IsTrue, None, Some, bytes_eq, codes, map, option_map};
 ghost use Rattle.clap.specs.Matches.{first_value, found_of, matched_of, raw_values, subcommand_name_of};
 ghost use Rattle.gix_hash.specs.declared.Kind.{Kind};
-ghost use Rattle.packtool.specs.Arguments.{IsAbout, IsGiven, action_in, command_name};
+ghost use Rattle.packtool_arguments.specs.Arguments.{IsAbout, IsGiven, action_in, command_name};
 
 use clap::{Arg, ArgAction, ArgMatches, Command, value_parser};
 use gix_hash::Kind;
-use packtool_commands::Wanted;
+use packtool_commands::{Ask, Question, StoreRequest, Wanted};
 use std::alloc::{AllocError, Global};
-use store_questions::{Ask, Question, StoreRequest};
 
 /// What the program is asked to do.
 #[derive(Clone, Copy)]

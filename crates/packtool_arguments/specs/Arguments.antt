@@ -2,14 +2,14 @@
 use Rattle.std.specs.Prelude.{ℕ, ◌≡◌, Bool, List, None, Option, Some, codes, false, true}
 use Rattle.clap.specs.Matches.{one_text}
 use Rattle.clap.specs.declared.parser.matches.Found.{Found}
-use Rattle.packtool.specs.declared.arguments.Action.{Action}
-use Rattle.packtool.specs.declared.arguments.Action.TheVariants as actions
-use Rattle.store_questions.specs.declared.request.Ask.{Ask}
-use Rattle.store_questions.specs.declared.request.Ask.TheVariants.{All, Lines, Prefix}
-use Rattle.packtool.specs.declared.arguments.FileCommand.TheVariants.{Check, Show}
-use Rattle.store_questions.specs.declared.request.Question.TheVariants.{Abbreviate, Find, Locate}
-use Rattle.packtool.specs.declared.arguments.Request.{Request}
-use Rattle.packtool.specs.declared.arguments.Request.TheVariants as requests
+use Rattle.packtool_arguments.specs.declared.arguments.Action.{Action}
+use Rattle.packtool_arguments.specs.declared.arguments.Action.TheVariants as actions
+use Rattle.packtool_commands.specs.declared.request.Ask.{Ask}
+use Rattle.packtool_commands.specs.declared.request.Ask.TheVariants.{All, Lines, Prefix}
+use Rattle.packtool_arguments.specs.declared.arguments.FileCommand.TheVariants.{Check, Show}
+use Rattle.packtool_commands.specs.declared.request.Question.TheVariants.{Abbreviate, Find, Locate}
+use Rattle.packtool_arguments.specs.declared.arguments.Request.{Request}
+use Rattle.packtool_arguments.specs.declared.arguments.Request.TheVariants as requests
 use Rattle.packtool_commands.specs.declared.printing.Wanted.TheVariants as wanted
 
 -- the name of the command that does something
